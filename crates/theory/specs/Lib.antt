@@ -1,0 +1,15 @@
+pub mod Row
+pub mod Lists
+pub mod Multiset
+pub mod Colouring
+pub mod SearchTree
+pub mod Triple
+pub mod Graph
+pub mod Refinement
+pub mod CanonicalForm
+pub mod Isomorphism
+pub mod Refusal
+pub mod Encoding
+pub mod Theorems
+pub mod Sanity
+pub mod Examples
