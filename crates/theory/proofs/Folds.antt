@@ -3,14 +3,13 @@
 -- The order of a list without repeats does not count for such a fold, only its members do. So two lists give the same result if one is
 -- the other renamed (`fold-renamed`): that is how every sum over the triples or the leaves of a graph is carried to an isomorphic one.
 use mathlib.Core.Path.{_≡_, refl, sym, _∙_, ap}
-use mathlib.Core.Bool.{Bool, true, false, cond}
+use mathlib.Core.Bool.{Bool, true}
 use mathlib.Core.List.{List, [], _∷_, _++_, map, foldr, flatten}
-use mathlib.Core.Logic.{_⊎_, inl, inr}
 use Prim.Native.Nat.{ℕ, suc}
 use native.Mathlib.Omega.{arith}
 use lib.ListN.{length}
 use Rattle.theory.specs.Lists.{member}
-use Rattle.theory.proofs.Lists.{Decider, Apart, without, same-tells, member-here, without-member, without-other, without-itself, apart-without}
+use Rattle.theory.proofs.Lists.{Decider, Apart, without, same-tells, without-member, without-other, without-itself, apart-without}
 
 pub foldr-append : {X A : Type 0} (f : X → A → A) (a : A) (xs ys : List X) → foldr f a (xs ++ ys) ≡ foldr f (foldr f a ys) xs
 foldr-append f a [] ys = refl

@@ -173,9 +173,6 @@ module _ {X : Type 0} (same : X → X → Bool) (d : Decider same) where
       go true e ih = sym (d .sound x y e)
       go false e ih = ih (cc)
 
-  pub index-apart : (o x y : X) (l : List X) → member same x l ≡ true → member same y l ≡ true → index-of same x l ≡ index-of same y l → x ≡ y
-  index-apart o x y l h k e = sym (getD-index o x l h) ∙ ap (λ i. getD l i o) e ∙ getD-index o y l k
-
   -- what a test keeps
   pub member-kept : (p : X → Bool) (x : X) (l : List X) → member same x (kept-by p l) ≡ cond (member same x l) (p x) false
   unfolding member

@@ -1,17 +1,15 @@
 -- That the definitions mean what they say.
-use mathlib.Core.Path.{_≡_, refl, sym, _∙_, ap}
-use mathlib.Core.Bool.{Bool, true, false, cond}
-use mathlib.Core.List.{List, [], _∷_, flatten}
-use Prim.Native.Nat.{ℕ}
+use mathlib.Core.Path.{_≡_, refl, sym, _∙_}
+use mathlib.Core.Bool.{true}
+use mathlib.Core.List.{_∷_, flatten}
 use native.Mathlib.Omega.{arith}
-use Rattle.theory.specs.Row.{Row, same-row, before}
-use Rattle.theory.specs.Lists.{member, index-of, distinct}
-use Rattle.theory.specs.Multiset.{insert, insert-once, sorted, sorted-set, least}
-use Rattle.theory.specs.Colouring.{refine-by, rounds, cell, target-cell, individualise}
-use Rattle.theory.specs.SearchTree.{branches, leaves-below}
+use Rattle.theory.specs.Lists.{member}
+use Rattle.theory.specs.Multiset.{insert, sorted, sorted-set, least}
+use Rattle.theory.specs.Colouring.{rounds}
+use Rattle.theory.specs.SearchTree.{leaves-below}
 use Rattle.theory.specs.Triple.{Triple, same-triple}
-use Rattle.theory.specs.Graph.{Graph, holds}
-use Rattle.theory.specs.Refinement.{refine, stable, leaves}
+use Rattle.theory.specs.Graph.{holds}
+use Rattle.theory.specs.Refinement.{stable, leaves}
 use Rattle.theory.specs.CanonicalForm.{certificate-rows, certificate, certificates, form}
 use Rattle.theory.specs.Sanity.{Tests-are-equality, Order-strict-total, Prefix-first, Sorting-keeps, Least-is-least, Row-writes-triple, Empty-form, Repeat-form}
 use Rattle.theory.proofs.Row.{same-row-true, same-row-refl, before-irrefl, before-trans, before-prefix, rows}

@@ -1,16 +1,15 @@
 -- What the rest needs of a triple's shape: rows tell triples apart and write them down, relabelling follows the mapping, and what a blank
 -- node sees of a triple goes along with a one-to-one mapping.
 use mathlib.Core.Path.{_≡_, refl, sym, _∙_, ap}
-use mathlib.Core.Bool.{Bool, true, false, cond, _&&_}
-use mathlib.Core.List.{List, [], _∷_, _++_}
+use mathlib.Core.Bool.{true}
+use mathlib.Core.List.{_∷_, _++_}
 use Prim.Native.Nat.{ℕ, zero, suc, _<_}
 use native.Mathlib.Omega.{arith}
-use lib.Dec.{eqb, ltb}
 use lib.ListN.{length, getD}
 use Rattle.std.proofs.shelf.Tests.{and-parts, ltb-true}
 use Rattle.std.proofs.shelf.Ways.{tells}
-use Rattle.theory.specs.Row.{Row, same-row}
-use Rattle.theory.specs.Colouring.{Colouring, colour, Agree}
+use Rattle.theory.specs.Row.{Row}
+use Rattle.theory.specs.Colouring.{Colouring, Agree}
 use Rattle.theory.specs.Triple.{Term, named, blank, Triple, width, term-row, triple-row, term-of, triple-of, term-fits, triple-fits, same-triple, relabel-term, relabel, Term-within, Within, is-blank, seen, incidences}
 use Rattle.theory.proofs.Row.{same-row-true, same-row-refl}
 use Rattle.theory.proofs.Lists.{Decider}

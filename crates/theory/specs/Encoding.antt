@@ -19,14 +19,14 @@
 --   read-verdict xs room     reading the form xs back into an encoded graph, with room for so many numbers: 1, 2, 3, 5, 4
 --   mapping-verdict g h p    whether the row p maps the blank nodes of g to those of h so that the graphs are the same: 6, 7, 8
 --   check-verdict xs ys p    the same of two encoded graphs: 1 and 2 of the first, then of the second, then 6, 7, 8
-use mathlib.Core.Bool.{Bool, true, false, not, _&&_}
-use mathlib.Core.List.{List, [], _∷_, map}
+use mathlib.Core.Bool.{Bool, not, _&&_}
+use mathlib.Core.List.{[], _∷_, map}
 use Prim.Native.Nat.{ℕ, suc, _+_, _-_, _*_, _/_, _%_}
 use lib.Dec.{eqb, ltb}
 use lib.ListN.{length, getD, take, drop}
 use Rattle.theory.specs.Row.{Row, same-row}
 use Rattle.theory.specs.Lists.{numbers, member}
-use Rattle.theory.specs.Triple.{Triple, width, triple-fits, same-triple, relabel}
+use Rattle.theory.specs.Triple.{width, triple-fits, same-triple, relabel}
 use Rattle.theory.specs.Graph.{Graph, holds, different}
 use Rattle.theory.specs.Refinement.{leaves}
 use Rattle.theory.specs.CanonicalForm.{form, rows-of, triples-of, read-back}

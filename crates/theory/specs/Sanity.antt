@@ -1,14 +1,14 @@
 -- That the definitions mean what they say: small facts that a newcomer can check against what they expect.
 use mathlib.Core.Path.{_≡_}
-use mathlib.Core.Bool.{Bool, true, false}
+use mathlib.Core.Bool.{true, false}
 use mathlib.Core.List.{List, [], _∷_, _++_}
 use mathlib.Core.Logic.{_⊎_}
-use Prim.Native.Nat.{ℕ, _<_}
+use Prim.Native.Nat.{ℕ}
 use Rattle.theory.specs.Row.{Row, same-row, before}
 use Rattle.theory.specs.Lists.{member, count}
 use Rattle.theory.specs.Multiset.{sorted, sorted-set, least}
 use Rattle.theory.specs.Triple.{Triple, triple-row, triple-of, same-triple}
-use Rattle.theory.specs.Graph.{Graph, WellFormed}
+use Rattle.theory.specs.Graph.{WellFormed}
 use Rattle.theory.specs.CanonicalForm.{form}
 
 -- `same-row` and `same-triple` are equality.

@@ -12,7 +12,7 @@
 --   incidences c b t    how t is seen from blank node b, by rows of role, predicate and other end. The role is 0 where b is the
 --                       subject and 1 where it is the object; both rows if it is both, none if it is neither
 --   seen c b x          the other end as b sees it: 0 and the name, 1 and 0 for b itself, or 2 and the colour of another blank node
-use mathlib.Core.Bool.{Bool, true, false, cond, _&&_}
+use mathlib.Core.Bool.{Bool, false, cond, _&&_}
 use mathlib.Core.List.{List, [], _∷_, _++_}
 use Prim.Native.Nat.{ℕ, zero, suc, _<_}
 use lib.Dec.{eqb, ltb}
