@@ -51,6 +51,10 @@ blank-count xs = getD xs 0 0
 abbrev pub triple-count : Row → ℕ
 triple-count xs = getD xs 1 0
 
+-- how many numbers an encoded graph has, by its count of triples
+abbrev pub graph-length : Row → ℕ
+graph-length xs = 2 + width * triple-count xs
+
 unfoldable pub graph-in : Row → Graph
 graph-in xs = record { blanks = blank-count xs; triples = triples-of (triple-count xs) (drop 2 xs) }
 
@@ -60,7 +64,7 @@ counts-verdict n k = first-refusal (refuse-if (ltb most-blanks n) 1 n ∷ refuse
 
 abbrev pub header-verdict : Row → Verdict
 header-verdict xs =
-    first-refusal (refuse-if (ltb (length xs) (2 + width * triple-count xs)) 1 (length xs) ∷ counts-verdict (blank-count xs) (triple-count xs) ∷ [])
+    first-refusal (refuse-if (ltb (length xs) (graph-length xs)) 1 (length xs) ∷ counts-verdict (blank-count xs) (triple-count xs) ∷ [])
 
 -- the first k rows of xs, each with blank nodes below n
 abbrev pub rows-verdict : ℕ → ℕ → Row → Verdict
