@@ -1,0 +1,102 @@
+ghost use mathlib.Core.Path.{_≡_};
+ghost use Prim.Native.Nat.{_+_, _*_, _≤_, _<_};
+ghost use lib.ListN.{length, drop};
+ghost use Rattle.std.specs.Options.{Cases as BySome};
+ghost use Rattle.std.specs.Vec.{made};
+ghost use Rattle.theory.specs.Triple.{name-fits, term-fits, triple-fits};
+ghost use Rattle.theory.specs.Encoding.{blank-count, triple-count, graph-length, header-verdict, rows-verdict, encoding-verdict};
+ghost use Rattle.graph.specs.Told.{verdict-of};
+use crate::refusal::Refusal;
+
+const MOST_BLANK_NODES: u64 = 32;
+
+const MOST_TRIPLES: u64 = 65536;
+
+// The counts that an encoded graph begins with.
+#[derive(Clone, Copy, PartialEq, Eq, Debug)]
+pub struct Header {
+    pub blanks: u64,
+    pub triples: u64,
+}
+
+// How many numbers an encoded graph has, unless some are missing.
+pub fn whole_length(graph: &[u64]) -> Option<usize>
+    ensures { λ r. ⌜ BySome r (length (now (graph .entry)) < graph-length (now (graph .entry))) (λ n. (n ≡ graph-length (now (graph .entry))) × (n ≤ length (now (graph .entry)))) ⌝ }
+{
+    // The count may be as large as a number gets, so it is compared with how many triples there is room for: five times the count could wrap.
+    if graph.len() < 2 || graph[1] > ((graph.len() - 2) / 5) as u64 {
+        return None;
+    }
+    Some(2 + 5 * graph[1] as usize)
+}
+
+pub fn read_header(graph: &[u64]) -> Result<Header, Refusal>
+    ensures verdict { λ r. ⌜ verdict-of r ≡ header-verdict (now (graph .entry)) ⌝ }
+    ensures counts { λ r. ⌜ made r (λ h. (h .blanks ≡ blank-count (now (graph .entry))) × (h .triples ≡ triple-count (now (graph .entry)))) ⌝ }
+    ensures within { λ r. ⌜ made r (λ h. (h .blanks ≤ 32) × (h .triples ≤ 65536) × (2 + 5 * h .triples ≤ length (now (graph .entry)))) ⌝ }
+{
+    if whole_length(graph).is_none() {
+        return Err(Refusal::CutShort(graph.len() as u64));
+    }
+    let blanks = graph[0];
+    if blanks > MOST_BLANK_NODES {
+        return Err(Refusal::TooManyBlankNodes(blanks));
+    }
+    let triples = graph[1];
+    if triples > MOST_TRIPLES {
+        return Err(Refusal::TooManyTriples(triples));
+    }
+    Ok(Header { blanks, triples })
+}
+
+// The header, if the numbers encode a graph. What comes behind the last triple is not looked at.
+pub fn check(graph: &[u64]) -> Result<Header, Refusal>
+    ensures verdict { λ r. ⌜ verdict-of r ≡ encoding-verdict (now (graph .entry)) ⌝ }
+    ensures counts { λ r. ⌜ made r (λ h. (h .blanks ≡ blank-count (now (graph .entry))) × (h .triples ≡ triple-count (now (graph .entry)))) ⌝ }
+    ensures within { λ r. ⌜ made r (λ h. (h .blanks ≤ 32) × (h .triples ≤ 65536) × (2 + 5 * h .triples ≤ length (now (graph .entry)))) ⌝ }
+{
+    let read = read_header(graph);
+    let Ok(header) = read else {
+        return read;
+    };
+    check_rows(graph, header)
+}
+
+// The header again, if each of its rows writes a triple down.
+fn check_rows(graph: &[u64], header: Header) -> Result<Header, Refusal>
+    requires few { ⌜ header .triples ≤ 65536 ⌝ }
+    requires whole { ⌜ 2 + 5 * header .triples ≤ length (now graph) ⌝ }
+    ensures verdict { λ r. ⌜ verdict-of r ≡ rows-verdict (header .blanks) (header .triples) (drop 2 (now (graph .entry))) ⌝ }
+    ensures same { λ r. ⌜ made r (λ h. h ≡ header) ⌝ }
+{
+    for row in 0..header.triples {
+        let start = 2 + 5 * row as usize;
+        if !row_fits(header.blanks, &graph[start..start + 5]) {
+            return Err(Refusal::NoTriple(row));
+        }
+    }
+    Ok(header)
+}
+
+fn row_fits(blanks: u64, row: &[u64]) -> bool
+    requires { ⌜ length (now row) ≡ 5 ⌝ }
+    ensures { λ r. ⌜ r ≡ triple-fits blanks (now (row .entry)) ⌝ }
+{
+    term_fits(blanks, row[0], row[1]) && name_fits(row[2]) && term_fits(blanks, row[3], row[4])
+}
+
+fn term_fits(blanks: u64, kind: u64, number: u64) -> bool
+    ensures { λ r. ⌜ r ≡ term-fits blanks kind number ⌝ }
+{
+    match kind {
+        0 => name_fits(number),
+        1 => number < blanks,
+        _ => false,
+    }
+}
+
+fn name_fits(name: u64) -> bool
+    ensures { λ r. ⌜ r ≡ name-fits name ⌝ }
+{
+    name < 1 << 32
+}
