@@ -1,0 +1,2 @@
+mod FirstGraph
+mod FourBytes
