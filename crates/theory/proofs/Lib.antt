@@ -19,3 +19,4 @@ pub mod Refusal
 pub mod Encoding
 pub mod Meanings
 pub mod Table
+pub mod RefusalTable

@@ -1,8 +1,8 @@
 -- Graphs in lent numbers, and which refusal is told of them with which place. Of several that apply the first is told.
 --
 --   number  when                                                                                    place
---   1       the numbers are cut short; more than 32 blank nodes; more than 65,536 triples as        the length; the count; the count
---           written; the length of a form is not one more than a multiple of a triple's width
+--   1       the numbers are cut short, or the length of a form is not one more than a multiple      the length; the count; the count
+--           of a triple's width; more than 32 blank nodes; more than 65,536 triples as written
 --   2       a row that writes no triple down                                                        the row
 --   3       more than 256 different triples; too little room for the answer                         256; the room
 --   4       the row is not the form of the graph that it writes down                                its length
@@ -17,7 +17,7 @@
 --   encoding-verdict xs      whether xs encodes a graph: numbers 1 and 2
 --   form-verdict xs room     finding the form of that graph, with room for so many numbers: 1, 2, 3, 5
 --   read-verdict xs room     reading the form xs back into an encoded graph, with room for so many numbers: 1, 2, 3, 5, 4
---   mapping-verdict g h p    whether the row p maps the blank nodes of g to those of h so that the graphs are the same: 6, 7, 8
+--   mapping-verdict g h p    whether the row p is an isomorphism of g and h: 6, 7, 8
 --   check-verdict xs ys p    the same of two encoded graphs: 1 and 2 of the first, then of the second, then 6, 7, 8
 use mathlib.Core.Bool.{Bool, not, _&&_}
 use mathlib.Core.List.{[], _∷_, map}
@@ -26,12 +26,12 @@ use lib.Dec.{eqb, ltb}
 use lib.ListN.{length, getD, take, drop}
 use Rattle.theory.specs.Row.{Row, same-row}
 use Rattle.theory.specs.Lists.{numbers, member}
-use Rattle.theory.specs.Triple.{width, triple-fits, same-triple, relabel}
+use Rattle.theory.specs.Triple.{width, triple-fits, same-triple, relabel, rows-of, triples-of}
 use Rattle.theory.specs.Graph.{Graph, holds, different}
 use Rattle.theory.specs.Refinement.{leaves}
-use Rattle.theory.specs.CanonicalForm.{form, rows-of, triples-of, read-back}
+use Rattle.theory.specs.CanonicalForm.{form, read-back}
 use Rattle.theory.specs.Isomorphism.{place}
-use Rattle.theory.specs.Refusal.{Verdict, accepted, refused, refuse-if, first-refusal, first-fault}
+use Rattle.theory.specs.Refusal.{Verdict, accepted, refused, refuse-if, first-refusal, first-fault, told-of}
 
 abbrev pub most-blanks : ℕ
 most-blanks = 32
@@ -117,14 +117,9 @@ mapping-verdict g h p =
 -- what is told of two graphs and a mapping, and of which of them it is told
 pub data Check-verdict : Type 0 where
   mapping-accepted : Check-verdict
-  first-refused : (number at : ℕ) → Check-verdict
-  second-refused : (number at : ℕ) → Check-verdict
-  mapping-refused : (number at : ℕ) → Check-verdict
-
--- a refusal told of the one named; else what comes next
-abbrev pub told-of : (ℕ → ℕ → Check-verdict) → Verdict → Check-verdict → Check-verdict
-told-of who accepted next = next
-told-of who (refused number at) next = who number at
+  first-refused : (number place : ℕ) → Check-verdict
+  second-refused : (number place : ℕ) → Check-verdict
+  mapping-refused : (number place : ℕ) → Check-verdict
 
 abbrev pub check-verdict : Row → Row → Row → Check-verdict
 check-verdict xs ys p =

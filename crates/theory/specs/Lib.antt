@@ -13,3 +13,4 @@ pub mod Encoding
 pub mod Theorems
 pub mod Sanity
 pub mod Examples
+pub mod RefusalExamples

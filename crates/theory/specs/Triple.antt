@@ -5,6 +5,8 @@
 --   width               how many numbers a triple is written with
 --   triple-row t        those numbers: subject, predicate, object; a term is 0 and its name, or 1 and its number
 --   triple-of r         the triple that a row of that width writes down
+--   rows-of k xs        the first k rows of that width in xs
+--   triples-of k xs     the triples that these rows write down
 --   triple-fits n r     the row writes a triple down: kinds are 0 or 1, names and predicates are below 2^32, blank nodes below n
 --   same-triple s t     s and t are the same triple
 --   relabel f t         t with blank node f k for each blank node k
@@ -13,10 +15,10 @@
 --                       subject and 1 where it is the object; both rows if it is both, none if it is neither
 --   seen c b x          the other end as b sees it: 0 and the name, 1 and 0 for b itself, or 2 and the colour of another blank node
 use mathlib.Core.Bool.{Bool, false, cond, _&&_}
-use mathlib.Core.List.{List, [], _∷_, _++_}
+use mathlib.Core.List.{List, [], _∷_, _++_, map}
 use Prim.Native.Nat.{ℕ, zero, suc, _<_}
 use lib.Dec.{eqb, ltb}
-use lib.ListN.{getD}
+use lib.ListN.{getD, take, drop}
 use Rattle.theory.specs.Row.{Row, same-row}
 use Rattle.theory.specs.Colouring.{Colouring, colour}
 
@@ -46,6 +48,13 @@ term-of (suc kind) k = blank k
 
 unfoldable pub triple-of : Row → Triple
 triple-of r = record { subject = term-of (getD r 0 0) (getD r 1 0); predicate = getD r 2 0; object = term-of (getD r 3 0) (getD r 4 0) }
+
+unfoldable pub rows-of : ℕ → Row → List Row
+rows-of zero xs = []
+rows-of (suc k) xs = take width xs ∷ rows-of k (drop width xs)
+
+unfoldable pub triples-of : ℕ → Row → List Triple
+triples-of k xs = map triple-of (rows-of k xs)
 
 abbrev pub name-fits : ℕ → Bool
 name-fits n = ltb n 4294967296

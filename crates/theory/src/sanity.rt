@@ -1,5 +1,5 @@
 // Small facts which show that the definitions mean what they say. Read these first.
-ghost use Rattle.theory.specs.Sanity.{Tests-are-equality, Order-strict-total, Prefix-first, Sorting-keeps, Least-is-least, Row-writes-triple, Empty-form, Repeat-form};
+ghost use Rattle.theory.specs.Sanity.{Tests-are-equality, Order-strict-total, Number-by-number, Sorting-keeps, Sorting-orders, Least-is-least, Row-writes-triple, Empty-form, Repeat-form, Bounds-inclusive};
 
 // The tests of rows and of triples are equality.
 pub fn tests_are_equality()
@@ -11,14 +11,19 @@ pub fn order_strict_total()
     ensures { λ _. ⌜ Order-strict-total ⌝ }
 {}
 
-// A row comes before each longer one that it begins.
-pub fn prefix_first()
-    ensures { λ _. ⌜ Prefix-first ⌝ }
+// Rows are ordered number by number, the smaller number first.
+pub fn number_by_number()
+    ensures { λ _. ⌜ Number-by-number ⌝ }
 {}
 
 // Sorting loses no row and adds none.
 pub fn sorting_keeps()
     ensures { λ _. ⌜ Sorting-keeps ⌝ }
+{}
+
+// Sorted rows are in order.
+pub fn sorting_orders()
+    ensures { λ _. ⌜ Sorting-orders ⌝ }
 {}
 
 // The least of some rows is one of them, and none comes before it.
@@ -39,4 +44,9 @@ pub fn empty_form()
 // A graph and its copy with a triple repeated have one form.
 pub fn repeat_form()
     ensures { λ _. ⌜ Repeat-form ⌝ }
+{}
+
+// The bounds on different triples and on leaves are themselves allowed.
+pub fn bounds_inclusive()
+    ensures { λ _. ⌜ Bounds-inclusive ⌝ }
 {}
