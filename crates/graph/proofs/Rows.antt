@@ -1,6 +1,6 @@
 -- The rows of an encoded graph, one after the other: what is told of the rows from row i on is told of row i if it writes no triple down,
 -- and else of the rows from row i + 1 on.
-use mathlib.Core.Path.{_≡_, refl, sym}
+use mathlib.Core.Path.{_≡_, sym}
 use mathlib.Core.Bool.{true, false}
 use Prim.Native.Nat.{ℕ, suc, _+_, _-_, _*_, _≤_, _<_}
 use native.Mathlib.Omega.{arith}
@@ -8,8 +8,7 @@ use lib.ListN.{drop}
 use Rattle.std.specs.shelf.Lists.{between}
 use Rattle.std.proofs.shelf.Lists.{drop-drop}
 use Rattle.theory.specs.Row.{Row}
-use Rattle.theory.specs.Triple.{triple-fits}
-use Rattle.theory.specs.CanonicalForm.{rows-of}
+use Rattle.theory.specs.Triple.{rows-of, triple-fits}
 use Rattle.theory.specs.Refusal.{Verdict, accepted, refused, first-fault}
 
 -- row i, as the code lends it

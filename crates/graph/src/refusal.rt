@@ -1,6 +1,6 @@
 ghost use mathlib.Core.Path.{_≡_};
 ghost use Rattle.std.specs.declared.option.Option.the-variants.{Some};
-ghost use Rattle.graph.specs.Told.{number-of, place-of, told, line};
+ghost use Rattle.graph.specs.Verdicts.{number-of, place-of, told, line};
 use std::fmt;
 
 // Why numbers are refused. Each cause has a number, which several may share, and a place.

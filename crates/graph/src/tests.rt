@@ -9,6 +9,21 @@ use crate::refusal::RefusalPartialEq;
 use std::test::*;
 
 #[test]
+fn opening_example(rt: LibcRuntime) -> Result<(), Fail> {
+    check_eq(
+        encoded::check(&[2, 1, 1, 0, 7, 0, 5]),
+        Ok(Header {
+            blanks: 2,
+            triples: 1,
+        }),
+    )?;
+    let Err(refusal) = encoded::check(&[2, 1, 1, 2, 7, 0, 5]) else {
+        return Err(Fail::new("not refused"));
+    };
+    check_eq(refusal.to_string(rt.alloc())?.as_str(), "refused 2 at 0")
+}
+
+#[test]
 fn cut_short() -> Result<(), Fail> {
     check_eq(encoded::check(&[]), Err(Refusal::CutShort(0)))?;
     check_eq(encoded::check(&[0]), Err(Refusal::CutShort(1)))?;

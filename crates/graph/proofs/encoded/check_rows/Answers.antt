@@ -8,8 +8,8 @@ loop-row-again c = c .loop-row .inv ∙ rows-left-more _ _ _ _ (c .loop-row-test
 pub returns-then-not-row-fits : need.returns-then-not-row-fits
 returns-then-not-row-fits c = record {
   verdict = sym (c .loop-row .inv ∙ rows-left-fault _ _ _ _ (c .loop-row-test .taken) (c .if-not-row-fits .ensures tt));
-  same = tt;
+  cases = refl;
 }
 
 pub returns : need.returns
-returns c = record { verdict = sym (c .loop-row .inv ∙ rows-left-all _ _ _ _ (c .loop-row-test .left)); same = refl }
+returns c = record { verdict = sym (c .loop-row .inv ∙ rows-left-all _ _ _ _ (c .loop-row-test .left)); cases = refl }
