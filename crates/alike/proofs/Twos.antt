@@ -8,7 +8,7 @@ use lib.ListN.{length, getD}
 use denote.Ref.{RefT}
 use Rattle.std.proofs.shelf.Lists.{map-push}
 use Rattle.theory.specs.Row.{Row}
-use Rattle.alike.specs.Answer.{Pair-verdict, pair-verdict, in-twos, told-by, held}
+use Rattle.alike.specs.Answer.{Pair-verdict, pair-verdict, in-twos, verdict-of, held}
 use Rattle.alike.specs.declared.answer.Answer.{Answer}
 
 -- `two` are the first two of the graphs that are left, or the last one alone; `second` is the second, or the empty row
@@ -28,15 +28,15 @@ in-twos-more left (x ∷ y ∷ z ∷ more) rest size d second cut long two some 
 
 -- a turn of the loop that answers: `was` are the answers before it, `more` those after it, and `all` what is told of all graphs
 pub so-far-more : (was more : List Answer) (answer : Answer) (verdict : Pair-verdict) (all : List Pair-verdict) (left rest : List (RefT Row)) →
-    map told-by was ++ in-twos (held left) ≡ all → in-twos (held left) ≡ verdict ∷ in-twos (held rest) → told-by answer ≡ verdict →
-    more ≡ was ++ answer ∷ [] → map told-by more ++ in-twos (held rest) ≡ all
+    map verdict-of was ++ in-twos (held left) ≡ all → in-twos (held left) ≡ verdict ∷ in-twos (held rest) → verdict-of answer ≡ verdict →
+    more ≡ was ++ answer ∷ [] → map verdict-of more ++ in-twos (held rest) ≡ all
 so-far-more was more answer verdict all left rest so-far step told pushed =
-    let last = map-push told-by was answer in
-    let front = append-assoc (map told-by was) (told-by answer ∷ []) (in-twos (held rest)) in
+    let last = map-push verdict-of was answer in
+    let front = append-assoc (map verdict-of was) (verdict-of answer ∷ []) (in-twos (held rest)) in
     cc
 
 pub so-far-all : (was : List Answer) (all : List Pair-verdict) (left : List (RefT Row)) →
-    map told-by was ++ in-twos (held left) ≡ all → length left ≡ 0 → map told-by was ≡ all
+    map verdict-of was ++ in-twos (held left) ≡ all → length left ≡ 0 → map verdict-of was ≡ all
 unfolding in-twos
-so-far-all was all [] so-far none = let end = append-nil (map told-by was) in cc
+so-far-all was all [] so-far none = let end = append-nil (map verdict-of was) in cc
 so-far-all was all (x ∷ left) so-far none = absurd (omega arith)

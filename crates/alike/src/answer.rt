@@ -3,7 +3,7 @@ ghost use mathlib.Core.List.{map};
 ghost use Rattle.std.specs.Of.Vec.{vec-items};
 ghost use Rattle.std.specs.Vec.{made};
 ghost use Rattle.std.specs.declared.option.Option.the-variants.{Some};
-ghost use Rattle.alike.specs.Answer.{told-by, pair-verdict, in-twos, line, held};
+ghost use Rattle.alike.specs.Answer.{verdict-of, pair-verdict, in-twos, line, held};
 use graph::encoded::check;
 use graph::refusal::Refusal;
 use graph::refusal::RefusalDisplay;
@@ -20,7 +20,7 @@ pub enum Answer {
 }
 
 pub impl fmt::Display for Answer as AnswerDisplay {
-    ghost shown = { λ a. Some (line (told-by a)) };
+    ghost shown = { λ a. Some (line (verdict-of a)) };
 
     fn fmt<W: fmt::Write>(&self, f: &mut fmt::Formatter<W>) -> fmt::Result {
         match self {
@@ -32,7 +32,7 @@ pub impl fmt::Display for Answer as AnswerDisplay {
 }
 
 pub fn answer_to(first: &[u64], second: &[u64]) -> Answer
-    ensures { λ r. ⌜ told-by r ≡ pair-verdict (now (first .entry)) (now (second .entry)) ⌝ }
+    ensures { λ r. ⌜ verdict-of r ≡ pair-verdict (now (first .entry)) (now (second .entry)) ⌝ }
 {
     if let Err(refusal) = check(first) {
         return Answer::First(refusal);
@@ -45,7 +45,7 @@ pub fn answer_to(first: &[u64], second: &[u64]) -> Answer
 
 // An answer for each two graphs. If the number of graphs is odd, the second graph that is missing is the empty row.
 pub fn answers(heap: Global, graphs: &[&[u64]]) -> Result<Vec<Answer>, AllocError>
-    ensures { λ r. ⌜ made r (λ v. map told-by (vec-items v) ≡ in-twos (held (now (graphs .entry)))) ⌝ }
+    ensures { λ r. ⌜ made r (λ v. map verdict-of (vec-items v) ≡ in-twos (held (now (graphs .entry)))) ⌝ }
 {
     let mut answers = Vec::new(heap);
     for two in graphs.chunks(2) {

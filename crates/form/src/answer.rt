@@ -1,7 +1,7 @@
 ghost use mathlib.Core.Path.{_≡_};
 ghost use Rattle.std.specs.declared.option.Option.the-variants.{Some};
 ghost use Rattle.theory.specs.Encoding.{encoding-verdict};
-ghost use Rattle.graph.specs.Told.{line};
+ghost use Rattle.graph.specs.Verdicts.{line};
 ghost use Rattle.form.specs.Answer.{verdict-of};
 use graph::encoded::check;
 use graph::refusal::Refusal;

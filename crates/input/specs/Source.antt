@@ -13,11 +13,11 @@ use Rattle.input.specs.Bytes.{numbers-in}
 use Rattle.input.specs.Graphs.{graphs-in}
 use Rattle.input.specs.declared.source.Source.{Source}
 
-abbrev pub odd-bytes : List ℕ → Bool
-odd-bytes bytes = not (eqb (length bytes % 4) 0)
+abbrev pub trailing-bytes : List ℕ → Bool
+trailing-bytes bytes = not (eqb (length bytes % 4) 0)
 
 abbrev pub graphs-in-bytes : List ℕ → List Row
-graphs-in-bytes bytes = graphs-in (odd-bytes bytes) (numbers-in bytes)
+graphs-in-bytes bytes = graphs-in (trailing-bytes bytes) (numbers-in bytes)
 
 abbrev pub source-graphs : Source → List Row
-source-graphs s = graphs-in (s .«odd_bytes») (vec-items (s .numbers))
+source-graphs s = graphs-in (s .«trailing_bytes») (vec-items (s .numbers))

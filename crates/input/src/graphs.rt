@@ -11,16 +11,16 @@ pub struct Graphs<'a> {
     // Nothing, once the input has ended.
     rest: Option<&'a [u64]>,
     // Whether one to three bytes that make no number come behind the numbers.
-    odd_bytes: bool,
+    trailing_bytes: bool,
 }
 
 impl<'a> Graphs<'a> {
-    pub fn new(numbers: &'a [u64], odd_bytes: bool) -> Graphs<'a>
-        ensures { λ r. ⌜ graphs-left r ≡ graphs-in «odd_bytes» (now (numbers .entry)) ⌝ }
+    pub fn new(numbers: &'a [u64], trailing_bytes: bool) -> Graphs<'a>
+        ensures { λ r. ⌜ graphs-left r ≡ graphs-in «trailing_bytes» (now (numbers .entry)) ⌝ }
     {
         Graphs {
             rest: Some(numbers),
-            odd_bytes,
+            trailing_bytes,
         }
     }
 }
@@ -28,7 +28,7 @@ impl<'a> Graphs<'a> {
 pub impl<'a> Iterator for Graphs<'a> as GraphsIterator {
     type Item = &'a [u64];
 
-    ghost steps = { λ s r t. Cases r (graphs-left s ≡ []) (λ x. graphs-left s ≡ x .now ∷ graphs-left t) };
+    ghost steps = { λ s r t. Cases r ((graphs-left s ≡ []) × (graphs-left t ≡ [])) (λ x. graphs-left s ≡ x .now ∷ graphs-left t) };
 
     ghost ends = { λ _. Unit {0} };
 
@@ -38,21 +38,21 @@ pub impl<'a> Iterator for Graphs<'a> as GraphsIterator {
         let Some(rest) = self.rest else {
             return None;
         };
-        let (graph, behind) = first_graph(rest, self.odd_bytes);
+        let (graph, behind) = first_graph(rest, self.trailing_bytes);
         self.rest = behind;
         Some(graph)
     }
 }
 
 // The first graph, and the numbers behind it, unless the input ends there.
-fn first_graph(numbers: &[u64], odd_bytes: bool) -> (&[u64], Option<&[u64]>)
-    ensures { λ r. ⌜ graphs-in «odd_bytes» (now (numbers .entry)) ≡ now (r .0) ∷ graphs-after «odd_bytes» (r .1) ⌝ }
+fn first_graph(numbers: &[u64], trailing_bytes: bool) -> (&[u64], Option<&[u64]>)
+    ensures { λ r. ⌜ graphs-in «trailing_bytes» (now (numbers .entry)) ≡ now (r .0) ∷ graphs-after «trailing_bytes» (r .1) ⌝ }
 {
     let Some(length) = whole_length(numbers) else {
         return (numbers, None);
     };
     let (graph, behind) = numbers.split_at(length);
-    if behind.is_empty() && !odd_bytes {
+    if behind.is_empty() && !trailing_bytes {
         return (graph, None);
     }
     (graph, Some(behind))

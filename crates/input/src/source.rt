@@ -16,7 +16,7 @@ use std::io::Read;
 pub struct Source {
     numbers: Vec<u64>,
     // Whether one to three bytes that make no number come behind the numbers.
-    odd_bytes: bool,
+    trailing_bytes: bool,
 }
 
 impl Source {
@@ -25,14 +25,14 @@ impl Source {
     {
         Ok(Source {
             numbers: numbers(heap, bytes)?,
-            odd_bytes: bytes.len() % 4 != 0,
+            trailing_bytes: bytes.len() % 4 != 0,
         })
     }
 
     pub fn graphs(&self) -> Graphs<'_>
         ensures { λ r. ⌜ graphs-left r ≡ source-graphs (now (self .entry)) ⌝ }
     {
-        Graphs::new(self.numbers.as_slice(), self.odd_bytes)
+        Graphs::new(self.numbers.as_slice(), self.trailing_bytes)
     }
 }
 
