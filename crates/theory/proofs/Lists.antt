@@ -12,7 +12,7 @@ use Rattle.std.specs.shelf.Lists.{All, kept-by}
 use Rattle.std.proofs.shelf.Tests.{cases-bool, cases-eq, eqb-true, eq-eqb}
 use Rattle.std.proofs.shelf.Ways.{tells}
 use Rattle.std.specs.Iters.{counting}
-use Rattle.theory.specs.Lists.{numbers, member, index-of, distinct, Each-once}
+use Rattle.theory.specs.Lists.{numbers, member, count, index-of, distinct, Each-once}
 
 -- `same` is equality
 pub record Decider {X : Type 0} (same : X → X → Bool) : Type 0 where
@@ -31,6 +31,12 @@ without same x (y ∷ ys) = cond (same x y) ys (y ∷ without same x ys)
 abbrev pub Apart : {X : Type 0} → (X → X → Bool) → List X → Type 0
 Apart same [] = Unit {0}
 Apart same (x ∷ xs) = (member same x xs ≡ false) × Apart same xs
+
+-- a member is what is there at least once
+pub member-count : {X : Type 0} (same : X → X → Bool) (x : X) (l : List X) → member same x l ≡ ltb 0 (count same x l)
+unfolding member count
+member-count same x [] = refl
+member-count same x (y ∷ ys) = let ih = member-count same x ys in let t = cases-bool (same x y) in grind (arith, tells)
 
 module _ {X : Type 0} (same : X → X → Bool) (d : Decider same) where
   -- what the test of two elements says, for `grind`

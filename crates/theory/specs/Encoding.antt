@@ -31,7 +31,7 @@ use Rattle.theory.specs.Graph.{Graph, holds, different}
 use Rattle.theory.specs.Refinement.{leaves}
 use Rattle.theory.specs.CanonicalForm.{form, read-back}
 use Rattle.theory.specs.Isomorphism.{place}
-use Rattle.theory.specs.Refusal.{Verdict, accepted, refused, refuse-if, first-refusal, first-fault, told-of}
+use Rattle.theory.specs.Refusal.{Verdict, refuse-if, first-refusal, first-fault, told-of}
 
 abbrev pub most-blanks : ℕ
 most-blanks = 32
