@@ -7,8 +7,8 @@ use native.Mathlib.Omega.{arith}
 use lib.ListN.{drop}
 use Rattle.std.specs.shelf.Lists.{between}
 use Rattle.std.proofs.shelf.Lists.{drop-drop}
-use Rattle.theory.specs.Row.{Row}
-use Rattle.theory.specs.Triple.{rows-of, triple-fits}
+use Rattle.theory.specs.Row.{Row, rows-of}
+use Rattle.theory.specs.Triple.{width, triple-fits}
 use Rattle.theory.specs.Refusal.{Verdict, accepted, refused, first-fault}
 
 -- row i, as the code lends it
@@ -17,7 +17,7 @@ row-at i xs = between (2 + 5 * i) (2 + 5 * i + 5) xs
 
 -- what is told of the rows from row i on to row k, with blank nodes below n
 abbrev pub rows-left : ℕ → Row → ℕ → ℕ → Verdict
-rows-left n xs k i = first-fault (triple-fits n) 2 i (rows-of (k - i) (drop (2 + 5 * i) xs))
+rows-left n xs k i = first-fault (triple-fits n) 2 i (rows-of width (k - i) (drop (2 + 5 * i) xs))
 
 pub rows-left-more : (n : ℕ) (xs : Row) (k i : ℕ) → i < k → true ≡ triple-fits n (row-at i xs) →
     rows-left n xs k i ≡ rows-left n xs k (i + 1)

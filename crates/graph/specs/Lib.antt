@@ -1,1 +1,5 @@
 pub mod Verdicts
+pub mod RowTree
+pub mod RowIndex
+pub mod TripleRows
+pub mod SimpleGraph

@@ -2,6 +2,7 @@ pub mod Row
 pub mod Lists
 pub mod Folds
 pub mod Multiset
+pub mod Sorting
 pub mod Round
 pub mod ColourCount
 pub mod Numbering
@@ -12,7 +13,10 @@ pub mod Triple
 pub mod Refinement
 pub mod CanonicalForm
 pub mod Isomorphism
+pub mod RowsOf
 pub mod ReadBack
+pub mod Simple
+pub mod Written
 pub mod Turn
 pub mod Automorphism
 pub mod Refusal

@@ -1,12 +1,12 @@
 -- The worked refusals, by computing.
 use mathlib.Core.Path.{refl}
 use mathlib.Core.List.{flatten}
-use Rattle.theory.specs.Row.{same-row, before}
+use Rattle.theory.specs.Row.{same-row, before, rows-of}
 use Rattle.theory.specs.Lists.{member, index-of, distinct}
 use Rattle.theory.specs.Multiset.{insert, insert-once, sorted, sorted-set, least}
 use Rattle.theory.specs.Colouring.{refine-by, rounds, cell, target-cell, individualise}
 use Rattle.theory.specs.SearchTree.{branches, leaves-below}
-use Rattle.theory.specs.Triple.{term-row, triple-row, term-of, triple-of, rows-of, triples-of, same-triple, relabel-term, relabel, is-blank, seen, incidences}
+use Rattle.theory.specs.Triple.{term-row, triple-row, term-of, triple-of, triples-of, same-triple, relabel-term, relabel, is-blank, seen, incidences}
 use Rattle.theory.specs.Refinement.{neighbourhood, key, refine, stable, leaves}
 use Rattle.theory.specs.CanonicalForm.{certificate-rows, certificate, certificates, form, read-back}
 use Rattle.theory.specs.Refusal.{first-fault}

@@ -15,7 +15,10 @@
 --   graph-in xs              the graph that xs encodes: the count of blank nodes, the count of triples, and a row for each triple; what
 --                            comes behind is not looked at
 --   encoding-verdict xs      whether xs encodes a graph: numbers 1 and 2
---   form-verdict xs room     finding the form of that graph, with room for so many numbers: 1, 2, 3, 5
+--   form-size g              how many numbers the form of g has
+--   largest-form             the most numbers that a form has
+--   graph-verdict xs room    reading that graph, with room for so many numbers of its form: 1, 2, 3
+--   form-verdict xs room     finding its form, with that room: 1, 2, 3, 5
 --   read-verdict xs room     reading the form xs back into an encoded graph, with room for so many numbers: 1, 2, 3, 5, 4
 --   mapping-verdict g h p    whether the row p is an isomorphism of g and h: 6, 7, 8
 --   check-verdict xs ys p    the same of two encoded graphs: 1 and 2 of the first, then of the second, then 6, 7, 8
@@ -24,9 +27,9 @@ use mathlib.Core.List.{[], _∷_, map}
 use Prim.Native.Nat.{ℕ, suc, _+_, _-_, _*_, _/_, _%_}
 use lib.Dec.{eqb, ltb}
 use lib.ListN.{length, getD, take, drop}
-use Rattle.theory.specs.Row.{Row, same-row}
+use Rattle.theory.specs.Row.{Row, same-row, rows-of}
 use Rattle.theory.specs.Lists.{numbers, member}
-use Rattle.theory.specs.Triple.{width, triple-fits, same-triple, relabel, rows-of, triples-of}
+use Rattle.theory.specs.Triple.{width, triple-fits, same-triple, relabel, triples-of}
 use Rattle.theory.specs.Graph.{Graph, holds, different}
 use Rattle.theory.specs.Refinement.{leaves}
 use Rattle.theory.specs.CanonicalForm.{form, read-back}
@@ -68,7 +71,7 @@ header-verdict xs =
 
 -- the first k rows of xs, each with blank nodes below n
 abbrev pub rows-verdict : ℕ → ℕ → Row → Verdict
-rows-verdict n k xs = first-fault (triple-fits n) 2 0 (rows-of k xs)
+rows-verdict n k xs = first-fault (triple-fits n) 2 0 (rows-of width k xs)
 
 abbrev pub encoding-verdict : Row → Verdict
 encoding-verdict xs = first-refusal (header-verdict xs ∷ rows-verdict (blank-count xs) (triple-count xs) (drop 2 xs) ∷ [])
@@ -81,10 +84,17 @@ size-verdict g needed room =
 abbrev pub leaves-verdict : Graph → Verdict
 leaves-verdict g = refuse-if (ltb most-leaves (length (leaves g))) 5 (suc most-leaves)
 
+abbrev pub form-size : Graph → ℕ
+form-size g = 1 + width * length (different g)
+
+abbrev pub largest-form : ℕ
+largest-form = 1 + width * most-different
+
+abbrev pub graph-verdict : Row → ℕ → Verdict
+graph-verdict xs room = first-refusal (encoding-verdict xs ∷ size-verdict (graph-in xs) (form-size (graph-in xs)) room ∷ [])
+
 abbrev pub form-verdict : Row → ℕ → Verdict
-form-verdict xs room =
-    first-refusal
-    (encoding-verdict xs ∷ size-verdict (graph-in xs) (1 + width * length (different (graph-in xs))) room ∷ leaves-verdict (graph-in xs) ∷ [])
+form-verdict xs room = first-refusal (graph-verdict xs room ∷ leaves-verdict (graph-in xs) ∷ [])
 
 -- how many rows of a triple's width come behind the first number
 abbrev pub row-count : Row → ℕ

@@ -5,8 +5,7 @@
 --   width               how many numbers a triple is written with
 --   triple-row t        those numbers: subject, predicate, object; a term is 0 and its name, or 1 and its number
 --   triple-of r         the triple that a row of that width writes down
---   rows-of k xs        the first k rows of that width in xs
---   triples-of k xs     the triples that these rows write down
+--   triples-of k xs     the triples that the first k rows of that width in xs write down
 --   triple-fits n r     the row writes a triple down: kinds are 0 or 1, names and predicates are below 2^32, blank nodes below n
 --   same-triple s t     s and t are the same triple
 --   relabel f t         t with blank node f k for each blank node k
@@ -18,8 +17,8 @@ use mathlib.Core.Bool.{Bool, false, cond, _&&_}
 use mathlib.Core.List.{List, [], _∷_, _++_, map}
 use Prim.Native.Nat.{ℕ, zero, suc, _<_}
 use lib.Dec.{eqb, ltb}
-use lib.ListN.{getD, take, drop}
-use Rattle.theory.specs.Row.{Row, same-row}
+use lib.ListN.{getD}
+use Rattle.theory.specs.Row.{Row, same-row, rows-of}
 use Rattle.theory.specs.Colouring.{Colouring, colour}
 
 pub data Term : Type 0 where
@@ -49,12 +48,8 @@ term-of (suc kind) k = blank k
 unfoldable pub triple-of : Row → Triple
 triple-of r = record { subject = term-of (getD r 0 0) (getD r 1 0); predicate = getD r 2 0; object = term-of (getD r 3 0) (getD r 4 0) }
 
-unfoldable pub rows-of : ℕ → Row → List Row
-rows-of zero xs = []
-rows-of (suc k) xs = take width xs ∷ rows-of k (drop width xs)
-
 unfoldable pub triples-of : ℕ → Row → List Triple
-triples-of k xs = map triple-of (rows-of k xs)
+triples-of k xs = map triple-of (rows-of width k xs)
 
 abbrev pub name-fits : ℕ → Bool
 name-fits n = ltb n 4294967296

@@ -1,0 +1,48 @@
+ghost use mathlib.Core.Path.{_≡_};
+ghost use Prim.Native.Nat.{_≤_, _<_};
+ghost use lib.ListN.{length, getD};
+ghost use Rattle.std.specs.Options.{Cases as BySome};
+ghost use Rattle.theory.specs.Triple.{Within};
+ghost use Rattle.graph.specs.SimpleGraph.{graph-of, triple-is};
+use crate::simple::SimpleGraph;
+use crate::triple::Term;
+use crate::triple::Triple;
+
+impl SimpleGraph {
+    pub fn blanks(&self) -> usize
+        ensures value { λ r. ⌜ r ≡ graph-of (now (self .entry)) .blanks ⌝ }
+        ensures few { λ r. ⌜ r ≤ 32 ⌝ }
+    {
+        self.blanks
+    }
+
+    pub fn triples(&self) -> usize
+        ensures value { λ r. ⌜ r ≡ length (graph-of (now (self .entry)) .triples) ⌝ }
+        ensures few { λ r. ⌜ r ≤ 256 ⌝ }
+    {
+        self.triples
+    }
+
+    // The triple at a place, from 0, unless there are not so many.
+    pub fn triple(&self, place: usize) -> Option<Triple>
+        ensures { λ r. ⌜ BySome r (length (graph-of (now (self .entry)) .triples) ≤ place) (λ t. (place < length (graph-of (now (self .entry)) .triples)) × (triple-is t ≡ getD (graph-of (now (self .entry)) .triples) place (triple-is t)) × Within (graph-of (now (self .entry)) .blanks) (triple-is t)) ⌝ }
+    {
+        if place >= self.triples {
+            return None;
+        }
+        let row = &self.rows[5 * place..5 * place + 5];
+        Some(Triple {
+            subject: term(row[0], row[1]),
+            predicate: row[2],
+            object: term(row[3], row[4]),
+        })
+    }
+}
+
+fn term(kind: u64, number: u64) -> Term {
+    if kind == 0 {
+        Term::Named(number)
+    } else {
+        Term::Blank(number as usize)
+    }
+}
