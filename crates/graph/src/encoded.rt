@@ -14,7 +14,7 @@ const MOST_BLANK_NODES: u64 = 32;
 const MOST_WRITTEN: u64 = 65536;
 
 // How many numbers a triple is written with.
-const WIDTH: usize = 5;
+pub const WIDTH: usize = 5;
 
 // The counts that an encoded graph begins with.
 #[derive(Clone, Copy, PartialEq, Eq, Debug)]

@@ -1,6 +1,7 @@
 ghost use mathlib.Core.Path.{_≡_};
 ghost use Rattle.std.specs.declared.option.Option.the-variants.{Some};
 ghost use Rattle.graph.specs.Verdicts.{number-of, place-of, told, line};
+use crate::simple::MOST_DIFFERENT;
 use std::fmt;
 
 // Why numbers are refused. Each cause has a number, which several may share, and a place.
@@ -14,6 +15,10 @@ pub enum Refusal {
     TooManyTriples(u64),
     // A row that writes no triple down. The place is its index, from 0.
     NoTriple(u64),
+    // More different triples than a form is found for. The place is how many it is found for.
+    TooManyDifferentTriples,
+    // Too little room for the answer. The place is the room.
+    TooLittleRoom(u64),
 }
 
 impl Refusal {
@@ -23,6 +28,7 @@ impl Refusal {
         match self {
             Refusal::CutShort(_) | Refusal::TooManyBlankNodes(_) | Refusal::TooManyTriples(_) => 1,
             Refusal::NoTriple(_) => 2,
+            Refusal::TooManyDifferentTriples | Refusal::TooLittleRoom(_) => 3,
         }
     }
 
@@ -33,6 +39,8 @@ impl Refusal {
             Refusal::CutShort(length) => length,
             Refusal::TooManyBlankNodes(count) | Refusal::TooManyTriples(count) => count,
             Refusal::NoTriple(row) => row,
+            Refusal::TooManyDifferentTriples => MOST_DIFFERENT as u64,
+            Refusal::TooLittleRoom(room) => room,
         }
     }
 }

@@ -1,10 +1,16 @@
-ghost use mathlib.Core.Path.{_≡_};
-ghost use mathlib.Core.Bool.{true};
-ghost use Prim.Native.Nat.{ℕ, _+_, _*_, _<_, _≤_};
 ghost use Rattle.graph.specs.TripleRows.{Few, Fitting, Once};
 
-pub mod different;
+pub mod reading;
 pub mod triples;
+
+// How many different triples a graph may have for its form to be found.
+pub const MOST_DIFFERENT: usize = 256;
+
+// The most numbers that a form has: one, and five for each different triple.
+pub const LARGEST_FORM: usize = 1281;
+
+// A node of the index for each of them, and one more.
+const NODES: usize = 257;
 
 // A graph as it is worked with: how many blank nodes, and its different triples in order, five numbers each.
 #[derive(Clone, Copy)]

@@ -2,8 +2,8 @@ ghost use mathlib.Core.Path.{_≡_};
 ghost use Prim.Native.Nat.{_≤_, _<_};
 ghost use lib.ListN.{length, getD};
 ghost use Rattle.std.specs.Options.{Cases as BySome};
-ghost use Rattle.theory.specs.Triple.{Within};
-ghost use Rattle.graph.specs.SimpleGraph.{graph-of, triple-is};
+ghost use Rattle.theory.specs.Triple.{Within, term-of};
+ghost use Rattle.graph.specs.SimpleGraph.{graph-of, term-is, triple-is};
 use crate::simple::SimpleGraph;
 use crate::triple::Term;
 use crate::triple::Triple;
@@ -39,7 +39,9 @@ impl SimpleGraph {
     }
 }
 
-fn term(kind: u64, number: u64) -> Term {
+fn term(kind: u64, number: u64) -> Term
+    ensures { λ r. ⌜ term-is r ≡ term-of kind number ⌝ }
+{
     if kind == 0 {
         Term::Named(number)
     } else {
