@@ -10,7 +10,7 @@ use lib.Chars.{codes}
 use denote.Ref.{RefT}
 use Rattle.theory.specs.Row.{Row}
 use Rattle.theory.specs.Refusal.{refused, told-of}
-use Rattle.theory.specs.Encoding.{encoding-verdict}
+use Rattle.theory.specs.Encoding.{graph-verdict, largest-form}
 use Rattle.graph.specs.Verdicts as graph
 use Rattle.graph.specs.Verdicts.{number-of, place-of}
 use Rattle.alike.specs.declared.answer.Answer.{Answer}
@@ -22,7 +22,8 @@ pub data Pair-verdict : Type 0 where
   second-refused : (number place : ℕ) → Pair-verdict
 
 abbrev pub pair-verdict : Row → Row → Pair-verdict
-pair-verdict xs ys = told-of first-refused (encoding-verdict xs) (told-of second-refused (encoding-verdict ys) both-accepted)
+pair-verdict xs ys =
+    told-of first-refused (graph-verdict xs largest-form) (told-of second-refused (graph-verdict ys largest-form) both-accepted)
 
 unfoldable pub in-twos : List Row → List Pair-verdict
 in-twos (xs ∷ ys ∷ graphs) = pair-verdict xs ys ∷ in-twos graphs

@@ -4,9 +4,10 @@ ghost use Rattle.std.specs.Of.Vec.{vec-items};
 ghost use Rattle.std.specs.Vec.{made};
 ghost use Rattle.std.specs.declared.option.Option.the-variants.{Some};
 ghost use Rattle.alike.specs.Answer.{verdict-of, pair-verdict, in-twos, line, held};
-use graph::encoded::check;
 use graph::refusal::Refusal;
 use graph::refusal::RefusalDisplay;
+use graph::simple::LARGEST_FORM;
+use graph::simple::reading::read_graph;
 use std::alloc::AllocError;
 use std::alloc::Global;
 use std::fmt;
@@ -34,10 +35,10 @@ pub impl fmt::Display for Answer as AnswerDisplay {
 pub fn answer_to(first: &[u64], second: &[u64]) -> Answer
     ensures { λ r. ⌜ verdict-of r ≡ pair-verdict (now (first .entry)) (now (second .entry)) ⌝ }
 {
-    if let Err(refusal) = check(first) {
+    if let Err(refusal) = read_graph(first, LARGEST_FORM) {
         return Answer::First(refusal);
     }
-    if let Err(refusal) = check(second) {
+    if let Err(refusal) = read_graph(second, LARGEST_FORM) {
         return Answer::Second(refusal);
     }
     Answer::Accepted

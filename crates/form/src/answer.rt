@@ -1,11 +1,12 @@
 ghost use mathlib.Core.Path.{_≡_};
 ghost use Rattle.std.specs.declared.option.Option.the-variants.{Some};
-ghost use Rattle.theory.specs.Encoding.{encoding-verdict};
+ghost use Rattle.theory.specs.Encoding.{graph-verdict, largest-form};
 ghost use Rattle.graph.specs.Verdicts.{line};
 ghost use Rattle.form.specs.Answer.{verdict-of};
-use graph::encoded::check;
 use graph::refusal::Refusal;
 use graph::refusal::RefusalDisplay;
+use graph::simple::LARGEST_FORM;
+use graph::simple::reading::read_graph;
 use std::fmt;
 
 // What is told of a graph.
@@ -27,9 +28,9 @@ pub impl fmt::Display for Answer as AnswerDisplay {
 }
 
 pub fn answer_to(graph: &[u64]) -> Answer
-    ensures { λ r. ⌜ verdict-of r ≡ encoding-verdict (now (graph .entry)) ⌝ }
+    ensures { λ r. ⌜ verdict-of r ≡ graph-verdict (now (graph .entry)) largest-form ⌝ }
 {
-    match check(graph) {
+    match read_graph(graph, LARGEST_FORM) {
         Ok(_) => Answer::Accepted,
         Err(refusal) => Answer::Refused(refusal),
     }

@@ -1,11 +1,11 @@
-use crate::encoded;
-use crate::encoded::Header;
-use crate::encoded::HeaderDebug;
-use crate::encoded::HeaderPartialEq;
-use crate::refusal::Refusal;
-use crate::refusal::RefusalDebug;
-use crate::refusal::RefusalDisplay;
-use crate::refusal::RefusalPartialEq;
+use graph::encoded;
+use graph::encoded::Header;
+use graph::encoded::HeaderDebug;
+use graph::encoded::HeaderPartialEq;
+use graph::refusal::Refusal;
+use graph::refusal::RefusalDebug;
+use graph::refusal::RefusalDisplay;
+use graph::refusal::RefusalPartialEq;
 use std::test::*;
 
 #[test]

@@ -1,0 +1,35 @@
+// Makes the calls that its input names, so that outside cases with numbers up to 2^64 - 1 can be run. A line is the room and then the numbers
+// of an encoded graph, in decimal; the answer is a line.
+use graph::refusal::RefusalDisplay;
+use graph::simple::reading::read_graph;
+use std::error::AnyError;
+use std::io::BufRead;
+use std::io::BufReader;
+use std::io::BufWriter;
+use std::io::Write;
+
+fn main(rt: LibcRuntime) -> Result<(), AnyError> {
+    rt.report(run(&rt))
+}
+
+fn run(rt: &LibcRuntime) -> Result<(), AnyError> {
+    let heap = rt.alloc();
+    let mut out = BufWriter::new(rt.stdout());
+    for line in BufReader::new(rt.stdin()).lines(heap) {
+        let line = line?;
+        let mut numbers: Vec<u64> = Vec::new(heap);
+        for word in line.split(' ') {
+            numbers.push(word.parse::<u64>()?)?;
+        }
+        if numbers.is_empty() {
+            return Err("a line without a room".into());
+        }
+        let room = numbers[0] as usize;
+        match read_graph(&numbers[1..], room) {
+            Ok(_) => writeln!(out, "accepted")?,
+            Err(refusal) => writeln!(out, "{refusal}")?,
+        }
+    }
+    out.flush()?;
+    Ok(())
+}

@@ -1,0 +1,54 @@
+use graph::row_index::RowIndex;
+use std::test::*;
+
+// Four rows of two numbers, and one of three that the second begins.
+const ROWS: [u64; 11] = [3, 1, 2, 9, 3, 1, 2, 9, 0, 7, 7];
+
+#[test]
+fn opening_example() -> Result<(), Fail> {
+    let mut index = RowIndex::<5>::new(&ROWS);
+    check(index.put(0, 2) && index.put(2, 4) && index.put(4, 6) && index.put(6, 9))?;
+    check_eq(index.distinct(), 3)?;
+    let mut all = [0; 12];
+    check_eq(index.write_all(&mut all), 9)?;
+    check_eq(all, [2, 9, 2, 9, 0, 3, 1, 3, 1, 0, 0, 0])?;
+    let mut once = [0; 8];
+    check_eq(index.write_once(&mut once), 7)?;
+    check_eq(once, [2, 9, 2, 9, 0, 3, 1, 0])?;
+    let places = index.in_order();
+    check_eq(places.count, 3)?;
+    check_eq(places.start, [2, 6, 0, 0, 0])?;
+    check_eq(places.end, [4, 9, 2, 0, 0])
+}
+
+#[test]
+fn refuses() -> Result<(), Fail> {
+    let mut index = RowIndex::<2>::new(&ROWS);
+    check(index.put(0, 2))?;
+    check(!index.put(2, 4)).note("full")?;
+    check(index.put(4, 6)).note("the same row once more")?;
+    check(!index.put(9, 12)).note("past the end")?;
+    check(!index.put(3, 2)).note("backward")?;
+    check_eq(index.distinct(), 1)
+}
+
+#[test]
+fn empties() -> Result<(), Fail> {
+    let mut index = RowIndex::<2>::new(&ROWS);
+    check(index.put(0, 2))?;
+    index.clear();
+    check_eq(index.distinct(), 0)?;
+    check(index.put(9, 9)).note("the empty row")?;
+    check_eq(index.distinct(), 1)?;
+    check(!RowIndex::<0>::new(&ROWS).put(0, 2)).note("no node at all")?;
+    check(!RowIndex::<1>::new(&ROWS).put(0, 2)).note("only the node that is none")
+}
+
+#[test]
+fn writes_what_fits() -> Result<(), Fail> {
+    let mut index = RowIndex::<3>::new(&ROWS);
+    check(index.put(0, 2) && index.put(2, 4))?;
+    let mut short = [5; 3];
+    check_eq(index.write_all(&mut short), 3)?;
+    check_eq(short, [2, 9, 3])
+}
