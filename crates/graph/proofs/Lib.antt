@@ -3,9 +3,12 @@ mod Copies
 pub mod Different
 mod Growing
 pub mod IndexRows
+pub mod IndexUse
 mod Insertion
 mod Multiples
+pub mod Overwritten
 mod Placing
+mod Rotation
 mod RowPlaces
 mod Rows
 mod Shape

@@ -2,12 +2,12 @@
 -- cut apart again.
 use mathlib.Core.Path.{_≡_, refl, sym, _∙_, ap}
 use mathlib.Core.List.{List, [], _∷_, _++_, flatten, append-assoc}
-use Prim.Native.Nat.{ℕ, zero, suc, _+_, _*_, _<_}
+use Prim.Native.Nat.{ℕ, zero, suc, _+_, _*_, _≤_, _<_}
 use native.Mathlib.Nat.{mul-suc, add-comm}
 use native.Mathlib.Omega.{arith}
 use lib.ListN.{length, getD, take, drop}
 use Rattle.std.specs.shelf.Lists.{All}
-use Rattle.std.proofs.shelf.Lists.{drop-drop, take-at, drop-at, length-append}
+use Rattle.std.proofs.shelf.Lists.{drop-drop, take-at, drop-at, length-append, length-take-le, length-drop}
 use Rattle.theory.specs.Row.{Row, rows-of}
 
 pub length-rows-of : (w k : ℕ) (xs : Row) → length (rows-of w k xs) ≡ k
@@ -41,6 +41,13 @@ rows-of-push w k xs = rows-of-split w k 1 xs
 abbrev pub Wide : ℕ → List Row → Type 0
 Wide w rows = All (λ r. length r ≡ w) rows
 
+pub wide-rows : (w k : ℕ) (xs : Row) → w * k ≤ length xs → Wide w (rows-of w k xs)
+unfolding rows-of
+wide-rows w zero xs h = tt
+wide-rows w (suc k) xs h =
+    let m = mul-suc w k in
+    (length-take-le w xs (omega arith), wide-rows w k (drop w xs) (let d = length-drop w xs in omega arith))
+
 pub length-flatten-wide : (w : ℕ) (rows : List Row) → Wide w rows → length (flatten rows) ≡ w * length rows
 unfolding flatten
 length-flatten-wide w [] h = let e : w * 0 ≡ 0 = omega arith in sym e
@@ -56,3 +63,6 @@ rows-of-flatten-front w (r ∷ rs) rest h =
     let b = drop-at r (flatten rs ++ rest) w (h .0) in
     let ih = rows-of-flatten-front w rs rest (h .1) in
     rw (e, a, b) (ap (λ rows. r ∷ rows) ih)
+
+pub length-flatten-rows-of : (w k : ℕ) (xs : Row) → w * k ≤ length xs → length (flatten (rows-of w k xs)) ≡ w * k
+length-flatten-rows-of w k xs h = length-flatten-wide w (rows-of w k xs) (wide-rows w k xs h) ∙ ap (λ n. w * n) (length-rows-of w k xs)

@@ -1,23 +1,22 @@
 -- The rows of an accepted encoding. Each has a triple's width and fits, so that it is the row of the triple that it writes down; the simple
 -- form of the graph is therefore read off the rows as they are written.
 use mathlib.Core.Path.{_≡_, refl, sym, _∙_, ap}
-use mathlib.Core.Bool.{true, false}
+use mathlib.Core.Bool.{true}
 use mathlib.Core.List.{List, [], _∷_, map}
-use Prim.Native.Nat.{ℕ, zero, suc, _+_, _*_, _≤_}
-use native.Mathlib.Nat.{mul-suc}
+use Prim.Native.Nat.{ℕ, zero, suc, _≤_}
 use native.Mathlib.Omega.{arith}
-use lib.Dec.{ltb}
-use lib.ListN.{length, getD, take, drop}
+use lib.ListN.{length, drop}
 use Rattle.std.specs.shelf.Lists.{All}
-use Rattle.std.proofs.shelf.Lists.{length-take-le, length-drop, length-map}
-use Rattle.std.proofs.shelf.Tests.{and-parts, cases-order, lt-ltb}
+use Rattle.std.proofs.shelf.Lists.{length-drop, length-map}
+use Rattle.std.proofs.shelf.Tests.{and-parts}
 use Rattle.theory.specs.Row.{Row, rows-of}
 use Rattle.theory.specs.Multiset.{sorted-set}
 use Rattle.theory.specs.Triple.{width, term-row, triple-row, term-of, triple-of, term-fits, triple-fits, triples-of}
 use Rattle.theory.specs.Graph.{Graph, different, simple}
 use Rattle.theory.specs.Refusal.{accepted}
-use Rattle.theory.specs.Encoding.{graph-in, blank-count, triple-count, graph-length, header-verdict, rows-verdict, counts-verdict, encoding-verdict}
-use Rattle.theory.proofs.Refusal.{first-accepted, not-refused, no-fault}
+use Rattle.theory.specs.Encoding.{graph-in, blank-count, triple-count, graph-length, header-verdict, rows-verdict, encoding-verdict}
+use Rattle.theory.proofs.RowsOf.{Wide, wide-rows}
+use Rattle.theory.proofs.Refusal.{first-accepted, no-fault}
 use Rattle.theory.proofs.ReadBack.{Is-triple-row}
 use Rattle.theory.proofs.Simple.{simple-length}
 
@@ -43,14 +42,7 @@ fits-row n (a ∷ b ∷ []) l h = absurd (omega arith)
 fits-row n (a ∷ []) l h = absurd (omega arith)
 fits-row n [] l h = absurd (omega arith)
 
-pub wide-rows : (w k : ℕ) (xs : Row) → w * k ≤ length xs → All (λ r. length r ≡ w) (rows-of w k xs)
-unfolding rows-of
-wide-rows w zero xs h = tt
-wide-rows w (suc k) xs h =
-    let m = mul-suc w k in
-    (length-take-le w xs (omega arith), wide-rows w k (drop w xs) (let d = length-drop w xs in omega arith))
-
-pub rows-fit : (n : ℕ) (rows : List Row) → All (λ r. length r ≡ width) rows → All (λ r. triple-fits n r ≡ true) rows → All Is-triple-row rows
+pub rows-fit : (n : ℕ) (rows : List Row) → Wide width rows → All (λ r. triple-fits n r ≡ true) rows → All Is-triple-row rows
 rows-fit n [] w f = tt
 rows-fit n (r ∷ rs) w f = (fits-row n r (w .0) (f .0), rows-fit n rs (w .1) (f .1))
 
