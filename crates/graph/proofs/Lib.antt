@@ -12,6 +12,7 @@ mod Rotation
 mod RowPlaces
 mod Rows
 mod Shape
+pub mod SimpleGraph
 pub mod Sizes
 mod Soundness
 pub mod TreeNodes

@@ -19,7 +19,7 @@ unfolding triples-of
 getD-triples k i xs t h =
     let l = length-rows-of width k xs in
     let e : 5 * i + 5 - 5 * i ≡ 5 = omega arith in
-    getD-map triple-of (rows-of width k xs) i [] t (omega arith) ∙ ap triple-of (getD-rows-of width k i xs [] h ∙ ap (λ n. take n (drop (5 * i) xs)) (sym e))
+    getD-map triple-of (rows-of width k xs) i [] t (omega arith) ∙ ap triple-of (getD-rows-of width k i xs h ∙ ap (λ n. take n (drop (5 * i) xs)) (sym e))
 
 -- a kind and a number, read as a term
 pub term-named : (kind n : ℕ) → kind ≡ 0 → named n ≡ term-of kind n

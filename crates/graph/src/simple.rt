@@ -1,4 +1,4 @@
-ghost use Rattle.graph.specs.TripleRows.{Few, Fitting, Once};
+ghost use Rattle.graph.specs.TripleRows.{Few, Whole, Fitting, Once};
 
 pub mod reading;
 pub mod triples;
@@ -19,6 +19,7 @@ pub struct SimpleGraph {
     triples: usize,
     rows: [u64; 1280],
     ghost few: { Few blanks triples },
+    ghost whole: { Whole triples rows },
     ghost fitting: { Fitting blanks triples rows },
     ghost once: { Once triples rows },
 }

@@ -1,4 +1,5 @@
 pub mod Row
+pub mod RowsOf
 pub mod Lists
 pub mod Folds
 pub mod Multiset
@@ -13,7 +14,6 @@ pub mod Triple
 pub mod Refinement
 pub mod CanonicalForm
 pub mod Isomorphism
-pub mod RowsOf
 pub mod ReadBack
 pub mod Simple
 pub mod Written

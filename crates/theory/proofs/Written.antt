@@ -15,7 +15,7 @@ use Rattle.theory.specs.Triple.{width, term-row, triple-row, term-of, triple-o
 use Rattle.theory.specs.Graph.{Graph, different, simple}
 use Rattle.theory.specs.Refusal.{accepted}
 use Rattle.theory.specs.Encoding.{graph-in, blank-count, triple-count, graph-length, header-verdict, rows-verdict, encoding-verdict}
-use Rattle.theory.proofs.RowsOf.{Wide, wide-rows}
+use Rattle.theory.proofs.RowsOf.{Wide, rows-of-wide}
 use Rattle.theory.proofs.Refusal.{first-accepted, no-fault}
 use Rattle.theory.proofs.ReadBack.{Is-triple-row}
 use Rattle.theory.proofs.Simple.{simple-length}
@@ -63,7 +63,7 @@ module _ (xs : Row) (ok : encoding-verdict xs ≡ accepted) where
   pub accepted-rows : graph-length xs ≤ length xs → All Is-triple-row rows-in
   accepted-rows whole =
       let d = length-drop 2 xs in
-      rows-fit (blank-count xs) rows-in (wide-rows width (triple-count xs) (drop 2 xs) (omega arith)) accepted-fit
+      rows-fit (blank-count xs) rows-in (rows-of-wide width (triple-count xs) (drop 2 xs) (omega arith)) accepted-fit
 
   -- the simple form, read off the rows
   pub simple-encoded : graph-length xs ≤ length xs → simple (graph-in xs) ≡ record { blanks = blank-count xs; triples = map triple-of (sorted-set rows-in) }
