@@ -84,6 +84,13 @@ rows-of-wide w (suc k) xs h =
     let m = mul-suc w k in let l = length-take w xs in let d = length-drop w xs in
     (omega arith, rows-of-wide w k (drop w xs) (omega arith))
 
+pub rows-of-long : (w k : ℕ) (xs : Row) → Wide w (rows-of w k xs) → w * k ≤ length xs
+unfolding rows-of
+rows-of-long w zero xs h = rw mul-zero (omega arith)
+rows-of-long w (suc k) xs h =
+    let m = mul-suc w k in let l = length-take w xs in let d = length-drop w xs in
+    let e = h .0 in let ih = rows-of-long w k (drop w xs) (h .1) in omega arith
+
 pub length-flatten-rows-of : (w k : ℕ) (xs : Row) → w * k ≤ length xs → length (flatten (rows-of w k xs)) ≡ w * k
 length-flatten-rows-of w k xs h = length-flatten-rows w (rows-of w k xs) (rows-of-wide w k xs h) ∙ ap (λ n. w * n) (length-rows-of w k xs)
 
