@@ -8,6 +8,6 @@ pub mod places;
 pub mod refusal;
 pub mod row;
 pub mod row_index;
-pub mod row_tree;
+mod row_tree;
 pub mod simple;
 pub mod triple;
