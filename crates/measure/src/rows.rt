@@ -2,6 +2,7 @@ ghost use Prim.Native.Nat.{_<_};
 use graph::row_index::RowIndex;
 
 const ROWS: usize = 256;
+
 const WIDTH: usize = 5;
 
 // Writes the row of this rank in the order of rows: a triple of one of 32 blank nodes and a name.
@@ -40,7 +41,9 @@ pub fn shuffled() -> [u64; 1280] {
         order[place] = place;
     }
     for place in 0..ROWS {
-        state = state.wrapping_mul(6364136223846793005).wrapping_add(1442695040888963407);
+        state = state
+            .wrapping_mul(6364136223846793005)
+            .wrapping_add(1442695040888963407);
         let other = (state >> 33) as usize % ROWS;
         let kept = order[place];
         order[place] = order[other];

@@ -5,3 +5,5 @@ mod encoded;
 mod row_index;
 #[cfg(test)]
 mod simple;
+#[cfg(test)]
+mod stability;
