@@ -1,26 +1,56 @@
-// Takes times. What is measured goes to standard output, and is the same on every machine; the times go to standard error.
-use crate::rows::put_in_order;
+// Takes times. What was done goes to standard output, and is the same on every machine; how long it took goes to standard error.
+use crate::work::Finding;
+use crate::work::FindingWork;
+use crate::work::Reading;
+use crate::work::ReadingWork;
+use crate::work::Round;
+use crate::work::RoundWork;
+use crate::work::Rows;
+use crate::work::RowsWork;
+use crate::work::Stable;
+use crate::work::StableWork;
+use crate::work::Work;
+use graph::simple::LARGEST_FORM;
+use graph::simple::reading::read_graph;
+use refinement::incidences::Incidences;
+use std::error::AnyError;
 use std::io;
 use std::time::Instant;
 
+mod random;
 mod rows;
+mod work;
 
-const TURNS: u64 = 200;
+const TURNS: u64 = 500;
 
-fn main(rt: LibcRuntime) -> io::Result<()> {
-    time_rows(&rt, "from the least on", &rows::rising())?;
-    time_rows(&rt, "from the greatest on", &rows::falling())?;
-    time_rows(&rt, "in random order", &rows::shuffled())
+fn main(rt: LibcRuntime) -> Result<(), AnyError> {
+    rt.report(run(&rt))
 }
 
-// How long it takes to put all rows into an index, on average over many turns.
-fn time_rows(rt: &LibcRuntime, order: &str, numbers: &[u64; 1280]) -> io::Result<()> {
+fn run(rt: &LibcRuntime) -> Result<(), AnyError> {
+    time(rt, "rows put in from the least on", &Rows { numbers: rows::rising() })?;
+    time(rt, "rows put in from the greatest on", &Rows { numbers: rows::falling() })?;
+    time(rt, "rows put in in random order", &Rows { numbers: rows::shuffled() })?;
+    let encoded = random::graph();
+    time(rt, "different triples read", &Reading { graph: &encoded })?;
+    let Ok(graph) = read_graph(&encoded, LARGEST_FORM) else {
+        return Err("the random graph is refused".into());
+    };
+    time(rt, "blank nodes whose incidences are found", &Finding { graph: &graph })?;
+    let seen = Incidences::find(&graph);
+    time(rt, "colours after one round", &Round { seen: &seen })?;
+    time(rt, "stable colours", &Stable { seen: &seen })?;
+    Ok(())
+}
+
+// Does the work many times, and tells its answer and how long a turn took on average.
+fn time<W: Work>(rt: &LibcRuntime, what: &str, work: &W) -> io::Result<()> {
     let start = Instant::now(rt)?;
-    let mut different = 0;
+    let mut answer = 0;
     for _ in 0..TURNS {
-        different = put_in_order(numbers);
+        answer = work.turn();
     }
     let spent = start.elapsed(rt)?.as_nanos() / u128::from(TURNS);
-    eprintln!(rt, "{spent} ns")?;
-    println!(rt, "{different} rows put in {order}")
+    eprintln!(rt, "{spent} ns: {what}")?;
+    println!(rt, "{answer} {what}")
 }

@@ -1,5 +1,5 @@
 ghost use Prim.Native.Nat.{_<_};
-use graph::row_index::RowIndex;
+use rows::row_index::RowIndex;
 
 const ROWS: usize = 256;
 

@@ -1,4 +1,4 @@
-use graph::row_index::RowIndex;
+use rows::row_index::RowIndex;
 use std::test::*;
 
 // Four rows of two numbers, and one of three that the second begins.

@@ -1,0 +1,17 @@
+// A graph, the same one each time: 32 blank nodes, and 250 triples between them with one of four predicates, as a generator gives them.
+pub fn graph() -> [u64; 1252] {
+    let mut graph = [0; 1252];
+    graph[0] = 32;
+    graph[1] = 250;
+    let mut state = 7u64;
+    for triple in 0..250usize {
+        let start = 2 + 5 * triple;
+        state = state.wrapping_mul(6364136223846793005).wrapping_add(1442695040888963407);
+        graph[start] = 1;
+        graph[start + 1] = (state >> 33) % 32;
+        graph[start + 2] = (state >> 40) % 4;
+        graph[start + 3] = 1;
+        graph[start + 4] = (state >> 48) % 32;
+    }
+    graph
+}

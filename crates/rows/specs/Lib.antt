@@ -1,0 +1,5 @@
+pub mod RowOrder
+pub mod RowTree
+pub mod RowTreeSteps
+pub mod RowIndex
+pub mod Written
