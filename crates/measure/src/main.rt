@@ -38,8 +38,8 @@ fn run(rt: &LibcRuntime) -> Result<(), AnyError> {
     };
     time(rt, "blank nodes whose incidences are found", &Finding { graph: &graph })?;
     let seen = Incidences::find(&graph);
-    time(rt, "colours after one round", &Round { seen: &seen })?;
-    time(rt, "stable colours", &Stable { seen: &seen })?;
+    time(rt, "is the greatest colour after one round", &Round { seen })?;
+    time(rt, "is the greatest stable colour", &Stable { seen })?;
     Ok(())
 }
 

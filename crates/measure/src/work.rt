@@ -50,37 +50,34 @@ pub impl<'a> Work for Finding<'a> as FindingWork {
     }
 }
 
-// One round from blank nodes of one colour. How many colours there are then.
+// One round from blank nodes of one colour. The greatest colour then.
 #[derive(Drop)]
 pub struct Round<'a> {
-    pub seen: &'a Incidences<'a>,
+    pub seen: Incidences<'a>,
 }
 
 pub impl<'a> Work for Round<'a> as RoundWork {
     fn turn(&self) -> usize {
-        count_colours(self.seen.refine(Colouring::uniform()))
+        greatest_colour(self.seen.refine(Colouring::uniform()))
     }
 }
 
-// The stable colouring. How many colours there are then.
+// The stable colouring. The greatest colour then.
 #[derive(Drop)]
 pub struct Stable<'a> {
-    pub seen: &'a Incidences<'a>,
+    pub seen: Incidences<'a>,
 }
 
 pub impl<'a> Work for Stable<'a> as StableWork {
     fn turn(&self) -> usize {
-        count_colours(stable(self.seen, Colouring::uniform()))
+        greatest_colour(stable(&self.seen, Colouring::uniform()))
     }
 }
 
-// Colours are the numbers below their count, which is 32 at most.
-fn count_colours(colouring: Colouring) -> usize {
-    let mut most = 0;
+fn greatest_colour(colouring: Colouring) -> usize {
+    let mut greatest = 0;
     for colour in colouring.of {
-        if colour > most && colour < 32 {
-            most = colour;
-        }
+        greatest = colour.max(greatest);
     }
-    most as usize + 1
+    greatest as usize
 }
