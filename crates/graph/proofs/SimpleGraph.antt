@@ -34,7 +34,6 @@ module _ (s : SimpleGraph) where
   rows = rows-of width (s .triples) (s .rows)
 
   pub few-triples : length (graph-of s .triples) ≤ 256
-  unfolding graph-of
   few-triples = let a = length-triples (s .triples) (s .rows) in let f = s .few in omega arith
 
   each-fits : All (λ r. triple-fits (s .blanks) r ≡ true) rows
@@ -50,13 +49,13 @@ module _ (s : SimpleGraph) where
   each-is-row = rows-fit (s .blanks) rows (rows-of-wide width (s .triples) (s .rows) (s .whole)) each-fits
 
   pub well-formed : WellFormed (graph-of s)
-  unfolding graph-of triples-of
+  unfolding triples-of
   well-formed t h =
       all-member same-triple triple-decider (Within (s .blanks)) (map triple-of rows) t
       (all-map (Within (s .blanks)) triple-of rows (all-weaker (λ r. triple-fits (s .blanks) r ≡ true) (λ r. Within (s .blanks) (triple-of r)) (fits-within (s .blanks)) rows each-fits)) h
 
   pub different-triples : different (graph-of s) ≡ graph-of s .triples
-  unfolding graph-of triples-of
+  unfolding triples-of
   different-triples =
       distinct-apart same-triple (map triple-of rows)
       (apart-map same-row row-decider same-triple triple-decider triple-of rows (rising-apart rows (subst Rising (s .once) (rising-sorted-set rows)))

@@ -96,7 +96,6 @@ left xs room (Err f) e v c is =
 -- the room, checked last
 module _ (xs : Row) (room : ℕ) (ok : encoding-verdict xs ≡ accepted) (graph : SimpleGraph) (is : graph-of graph ≡ simple (graph-in xs)) where
   few : length (different (graph-in xs)) ≤ 256
-  unfolding graph-of
   few =
       let a = simple-length (graph-in xs) in
       let b = ap (λ (g : Graph). length (g .triples)) is in

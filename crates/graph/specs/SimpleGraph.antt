@@ -11,7 +11,7 @@ use Rattle.graph.specs.declared.triple.Term.{Term}
 use Rattle.graph.specs.declared.triple.Term.the-variants.{Named, Blank}
 use Rattle.graph.specs.declared.triple.Triple.{Triple}
 
-unfoldable pub graph-of : SimpleGraph → Graph
+abbrev pub graph-of : SimpleGraph → Graph
 graph-of s = record { blanks = s .blanks; triples = triples-of (s .triples) (s .rows) }
 
 abbrev pub term-is : Term → theory.Term

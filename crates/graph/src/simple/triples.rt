@@ -4,6 +4,7 @@ ghost use lib.ListN.{length, getD};
 ghost use Rattle.std.specs.Options.{Cases as BySome};
 ghost use Rattle.theory.specs.Triple.{Within, term-of};
 ghost use Rattle.graph.specs.SimpleGraph.{graph-of, term-is, triple-is};
+use crate::encoded::WIDTH;
 use crate::simple::SimpleGraph;
 use crate::triple::Term;
 use crate::triple::Triple;
@@ -27,15 +28,26 @@ impl SimpleGraph {
     pub fn triple(&self, place: usize) -> Option<Triple>
         ensures { λ r. ⌜ BySome r (length (graph-of (now (self .entry)) .triples) ≤ place) (λ t. (place < length (graph-of (now (self .entry)) .triples)) × (triple-is t ≡ getD (graph-of (now (self .entry)) .triples) place (triple-is t)) × Within (graph-of (now (self .entry)) .blanks) (triple-is t)) ⌝ }
     {
-        if place >= self.triples {
+        if place >= self.triples() {
             return None;
         }
-        let row = &self.rows[5 * place..5 * place + 5];
-        Some(Triple {
+        Some(self.triple_at(place))
+    }
+
+    // The triple at a place where there is one.
+    fn triple_at(&self, place: usize) -> Triple
+        requires there { ⌜ place < length (graph-of (now self) .triples) ⌝ }
+        requires few { ⌜ place < 256 ⌝ }
+        ensures value { λ r. ⌜ triple-is r ≡ getD (graph-of (now (self .entry)) .triples) place (triple-is r) ⌝ }
+        ensures within { λ r. ⌜ Within (graph-of (now (self .entry)) .blanks) (triple-is r) ⌝ }
+    {
+        let start = WIDTH * place;
+        let row = &self.rows[start..start + WIDTH];
+        Triple {
             subject: term(row[0], row[1]),
             predicate: row[2],
             object: term(row[3], row[4]),
-        })
+        }
     }
 }
 

@@ -8,20 +8,18 @@ use Rattle.theory.specs.Triple.{Triple, triple-of, Within}
 use Rattle.theory.proofs.Triple.{fits-within}
 use Rattle.graph.specs.SimpleGraph.{graph-of, triple-is}
 use Rattle.graph.proofs.TripleRows.{length-triples, getD-triples, triple-from}
-use Rattle.graph.proofs.simple.SimpleGraph.triple.Needs as need
-
-pub returns-then-place-self : need.returns-then-place-self
-unfolding graph-of
-returns-then-place-self c = omega (arith, length-triples (c .args .self .now .triples) (c .args .self .now .rows))
+use Rattle.graph.proofs.simple.SimpleGraph.triple_at.Needs as need
 
 pub returns : need.returns
-unfolding graph-of
 returns c =
     let s = c .args .self .now in
     let place = c .args .place in
     let l = length-triples (s .triples) (s .rows) in
-    let below : place < s .triples = omega arith in
+    let below : place < s .triples = omega (arith, c .pre .there, l) in
     let row : Row = between (5 * place) (5 * place + 5) (s .rows) in
     let t : Triple = triple-is (record { subject = c .term .result; predicate = getD row 2 0; object = c .term-2 .result }) in
     let e : t ≡ triple-of row = triple-from t row (c .term .ensures) refl (c .term-2 .ensures) in
-    (omega (arith, l), e ∙ sym (getD-triples (s .triples) place (s .rows) t below), subst (Within (s .blanks)) (sym e) (fits-within (s .blanks) row (s .fitting place below)))
+    record {
+      value = e ∙ sym (getD-triples (s .triples) place (s .rows) t below);
+      within = subst (Within (s .blanks)) (sym e) (fits-within (s .blanks) row (s .fitting place below));
+    }
