@@ -28,17 +28,43 @@ fn main(rt: LibcRuntime) -> Result<(), AnyError> {
 }
 
 fn run(rt: &LibcRuntime) -> Result<(), AnyError> {
-    time(rt, "rows put in from the least on", &Rows { numbers: rows::rising() })?;
-    time(rt, "rows put in from the greatest on", &Rows { numbers: rows::falling() })?;
-    time(rt, "rows put in in random order", &Rows { numbers: rows::shuffled() })?;
+    time(
+        rt,
+        "rows put in from the least on",
+        &Rows {
+            numbers: rows::rising(),
+        },
+    )?;
+    time(
+        rt,
+        "rows put in from the greatest on",
+        &Rows {
+            numbers: rows::falling(),
+        },
+    )?;
+    time(
+        rt,
+        "rows put in in random order",
+        &Rows {
+            numbers: rows::shuffled(),
+        },
+    )?;
     let encoded = random::graph();
     time(rt, "different triples read", &Reading { graph: &encoded })?;
     let Ok(graph) = read_graph(&encoded, LARGEST_FORM) else {
         return Err("the random graph is refused".into());
     };
-    time(rt, "blank nodes whose incidences are found", &Finding { graph: &graph })?;
+    time(
+        rt,
+        "blank nodes whose incidences are found",
+        &Finding { graph: &graph },
+    )?;
     let seen = Incidences::find(&graph);
-    time(rt, "is the greatest colour after one round", &Round { seen })?;
+    time(
+        rt,
+        "is the greatest colour after one round",
+        &Round { seen },
+    )?;
     time(rt, "is the greatest stable colour", &Stable { seen })?;
     Ok(())
 }

@@ -6,7 +6,9 @@ pub fn graph() -> [u64; 1252] {
     let mut state = 7u64;
     for triple in 0..250usize {
         let start = 2 + 5 * triple;
-        state = state.wrapping_mul(6364136223846793005).wrapping_add(1442695040888963407);
+        state = state
+            .wrapping_mul(6364136223846793005)
+            .wrapping_add(1442695040888963407);
         graph[start] = 1;
         graph[start + 1] = (state >> 33) % 32;
         graph[start + 2] = (state >> 40) % 4;

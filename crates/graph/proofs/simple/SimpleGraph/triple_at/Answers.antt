@@ -6,7 +6,7 @@ use Rattle.std.specs.shelf.Lists.{between}
 use Rattle.theory.specs.Row.{Row}
 use Rattle.theory.specs.Triple.{Triple, triple-of, Within}
 use Rattle.theory.proofs.Triple.{fits-within}
-use Rattle.graph.specs.SimpleGraph.{graph-of, triple-is}
+use Rattle.graph.specs.SimpleGraph.{triple-is}
 use Rattle.graph.proofs.TripleRows.{length-triples, getD-triples, triple-from}
 use Rattle.graph.proofs.simple.SimpleGraph.triple_at.Needs as need
 

@@ -1,5 +1,4 @@
 use mathlib.Core.Path.{sym}
-use Rattle.graph.specs.SimpleGraph.{graph-of}
 use Rattle.graph.proofs.TripleRows.{length-triples}
 use Rattle.graph.proofs.simple.SimpleGraph.triples.Needs as need
 
