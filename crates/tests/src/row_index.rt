@@ -1,11 +1,23 @@
 use rows::row_index::RowIndex;
 use std::test::*;
 
-// Four rows of two numbers, and one of three that the second begins.
+#[test]
+fn opening_example() -> Result<(), Fail> {
+    let rows = [3, 1, 2, 9, 3, 1];
+    let mut index = RowIndex::<3>::new(&rows);
+    check(index.put(0, 2) && index.put(2, 4) && index.put(4, 6))?;
+    let mut out = [0; 6];
+    check_eq(index.write_all(&mut out), 6)?;
+    check_eq(out, [2, 9, 3, 1, 3, 1])?;
+    check_eq(index.write_once(&mut out), 4)?;
+    check_eq(out, [2, 9, 3, 1, 3, 1]).note("what lies behind stays")
+}
+
+// Three rows of two numbers, the first and the last the same; one of three numbers that the second row begins; two numbers more.
 const ROWS: [u64; 11] = [3, 1, 2, 9, 3, 1, 2, 9, 0, 7, 7];
 
 #[test]
-fn opening_example() -> Result<(), Fail> {
+fn rows_of_any_width() -> Result<(), Fail> {
     let mut index = RowIndex::<5>::new(&ROWS);
     check(index.put(0, 2) && index.put(2, 4) && index.put(4, 6) && index.put(6, 9))?;
     check_eq(index.distinct(), 3)?;

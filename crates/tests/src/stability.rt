@@ -138,8 +138,7 @@ fn itself_is_not_another() -> Result<(), Fail> {
 }
 
 #[test]
-fn one_round_goes_one_step() -> Result<(), Fail> {
-    // x0 3 x1, x1 3 x2: the ends are told apart at once.
+fn opening_example_of_refinement() -> Result<(), Fail> {
     let Ok(graph) = read_graph(&[3, 2, 1, 0, 3, 1, 1, 1, 1, 3, 1, 2], 1281) else {
         return Err(Fail::new("refused"));
     };
