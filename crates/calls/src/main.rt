@@ -1,5 +1,5 @@
-// Makes the calls that its input names, so that outside cases with numbers up to 2^64 - 1 can be run. A line is the room and then the numbers
-// of an encoded graph, in decimal; the answer is a line.
+// Reads graphs with numbers up to 2^64 - 1, which four bytes do not hold: a line is the room for the form and then the numbers of an encoded
+// graph, in decimal. The answer is a line.
 use graph::refusal::RefusalDisplay;
 use graph::simple::reading::read_graph;
 use std::error::AnyError;
@@ -21,11 +21,10 @@ fn run(rt: &LibcRuntime) -> Result<(), AnyError> {
         for word in line.split(' ') {
             numbers.push(word.parse::<u64>()?)?;
         }
-        if numbers.is_empty() {
+        let Some((room, graph)) = numbers.as_slice().split_first() else {
             return Err("a line without a room".into());
-        }
-        let room = numbers[0] as usize;
-        match read_graph(&numbers[1..], room) {
+        };
+        match read_graph(graph, *room as usize) {
             Ok(_) => writeln!(out, "accepted")?,
             Err(refusal) => writeln!(out, "{refusal}")?,
         }

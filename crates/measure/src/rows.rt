@@ -27,7 +27,7 @@ pub fn rising() -> [u64; 1280] {
 pub fn falling() -> [u64; 1280] {
     let mut numbers = [0; 1280];
     for place in 0..ROWS {
-        set_row(&mut numbers, place, ROWS - place);
+        set_row(&mut numbers, place, ROWS - 1 - place);
     }
     numbers
 }

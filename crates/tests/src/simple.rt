@@ -1,6 +1,7 @@
 use graph::refusal::Refusal;
 use graph::refusal::RefusalDebug;
 use graph::refusal::RefusalPartialEq;
+use graph::simple::LARGEST_FORM;
 use graph::simple::reading::read_graph;
 use graph::triple::Term;
 use graph::triple::Triple;
@@ -88,7 +89,7 @@ fn many(rt: LibcRuntime, written: u64, last: u64) -> Result<Vec<u64>, Fail> {
 #[test]
 fn too_many_different(rt: LibcRuntime) -> Result<(), Fail> {
     let most = many(rt.clone()?, 65536, 255)?;
-    check_eq(refusal(most.as_slice(), 1281), None)?;
+    check_eq(refusal(most.as_slice(), LARGEST_FORM), None)?;
     check_eq(
         refusal(most.as_slice(), 1280),
         Some(Refusal::TooLittleRoom(1280)),

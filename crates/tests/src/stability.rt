@@ -1,3 +1,4 @@
+use graph::simple::LARGEST_FORM;
 use graph::simple::reading::read_graph;
 use refinement::colouring::Colouring;
 use refinement::incidences::Incidences;
@@ -6,7 +7,7 @@ use std::test::*;
 
 // The stable colours of an encoded graph, from blank nodes that all have one colour.
 fn stable_colours(graph: &[u64]) -> Result<[u64; 32], Fail> {
-    let Ok(graph) = read_graph(graph, 1281) else {
+    let Ok(graph) = read_graph(graph, LARGEST_FORM) else {
         return Err(Fail::new("refused"));
     };
     Ok(stable(&Incidences::find(&graph), Colouring::uniform()).of)
@@ -139,14 +140,14 @@ fn itself_is_not_another() -> Result<(), Fail> {
 
 #[test]
 fn opening_example_of_refinement() -> Result<(), Fail> {
-    let Ok(graph) = read_graph(&[3, 2, 1, 0, 3, 1, 1, 1, 1, 3, 1, 2], 1281) else {
+    let Ok(graph) = read_graph(&[4, 3, 1, 0, 3, 1, 1, 1, 1, 3, 1, 2, 1, 2, 3, 1, 3], LARGEST_FORM) else {
         return Err(Fail::new("refused"));
     };
     let seen = Incidences::find(&graph);
-    check_eq(seen.blanks(), 3)?;
+    check_eq(seen.blanks(), 4)?;
     let mut start = Colouring::uniform();
-    start.of[3] = 9;
+    start.of[4] = 9;
     let refined = seen.refine(start).of;
-    check_eq([refined[0], refined[1], refined[2]], [0, 1, 2])?;
-    check_eq(refined[3], 9).note("past the blank nodes nothing changes")
+    check_eq([refined[0], refined[1], refined[2], refined[3]], [0, 1, 1, 2])?;
+    check_eq(refined[4], 9).note("past the blank nodes nothing changes")
 }
