@@ -14,7 +14,7 @@ use Rattle.theory.specs.Triple.{width, triple-row, triple-of, triple-fits, same
 use Rattle.theory.specs.Graph.{different, WellFormed}
 use Rattle.theory.proofs.Row.{row-decider}
 use Rattle.theory.proofs.RowsOf.{length-rows-of, getD-rows-of, rows-of-wide}
-use Rattle.theory.proofs.Lists.{Apart, all-member, apart-map}
+use Rattle.theory.proofs.Lists.{all-member, apart-map, distinct-apart}
 use Rattle.theory.proofs.Multiset.{Rising, rising-sorted-set, rising-apart}
 use Rattle.theory.proofs.Triple.{triple-decider, fits-within}
 use Rattle.theory.proofs.ReadBack.{Is-triple-row}
@@ -22,12 +22,6 @@ use Rattle.theory.proofs.Written.{rows-fit}
 use Rattle.graph.specs.SimpleGraph.{graph-of}
 use Rattle.graph.specs.declared.simple.SimpleGraph.{SimpleGraph}
 use Rattle.graph.proofs.TripleRows.{length-triples}
-
--- a list without repeats is the list of its different elements
-distinct-apart : {X : Type 0} (same : X → X → Bool) (l : List X) → Apart same l → distinct same l ≡ l
-unfolding distinct
-distinct-apart same [] a = refl
-distinct-apart same (x ∷ xs) a = let h = a .0 in let ih = distinct-apart same xs (a .1) in cc
 
 module _ (s : SimpleGraph) where
   abbrev rows : List Row

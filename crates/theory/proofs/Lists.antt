@@ -195,6 +195,12 @@ module _ {X : Type 0} (same : X → X → Bool) (d : Decider same) where
       go true ih = (let a = member-kept p y ys in let e = h .0 in cc, ih)
       go false ih = ih
 
+-- a list without repeats is the list of its different elements
+pub distinct-apart : {X : Type 0} (same : X → X → Bool) (l : List X) → Apart same l → distinct same l ≡ l
+unfolding distinct
+distinct-apart same [] a = refl
+distinct-apart same (x ∷ xs) a = let h = a .0 in let ih = distinct-apart same xs (a .1) in cc
+
 -- a mapped list
 module _ {X Y : Type 0} (same : X → X → Bool) (d : Decider same) (same′ : Y → Y → Bool) (d′ : Decider same′) (f : X → Y) where
   pub member-map : (x : X) (l : List X) → member same x l ≡ true → member same′ (f x) (map f l) ≡ true

@@ -1,5 +1,5 @@
 -- The rows of an accepted encoding. Each has a triple's width and fits, so that it is the row of the triple that it writes down; the simple
--- form of the graph is therefore read off the rows as they are written.
+-- graph is therefore read off the rows as they are written.
 use mathlib.Core.Path.{_≡_, refl, sym, _∙_, ap}
 use mathlib.Core.Bool.{true}
 use mathlib.Core.List.{List, [], _∷_, map}
@@ -65,7 +65,7 @@ module _ (xs : Row) (ok : encoding-verdict xs ≡ accepted) where
       let d = length-drop 2 xs in
       rows-fit (blank-count xs) rows-in (rows-of-wide width (triple-count xs) (drop 2 xs) (omega arith)) accepted-fit
 
-  -- the simple form, read off the rows
+  -- the simple graph, read off the rows
   pub simple-encoded : graph-length xs ≤ length xs → simple (graph-in xs) ≡ record { blanks = blank-count xs; triples = map triple-of (sorted-set rows-in) }
   unfolding simple graph-in triples-of
   simple-encoded whole = ap (λ rows. record { blanks = blank-count xs; triples = map triple-of (sorted-set rows) }) (rows-again rows-in (accepted-rows whole))

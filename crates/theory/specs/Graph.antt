@@ -5,7 +5,7 @@
 --   holds t g     t is one of g's triples
 --   different g   g's triples, each once
 --   WellFormed g  the blank nodes of each triple are among those that g has
---   simple g      g with each triple once, and the triples in the order of their rows
+--   simple g      g with each triple once, and the triples in the order of their rows; one that points at itself stays
 use mathlib.Core.Path.{_≡_}
 use mathlib.Core.Bool.{Bool, true}
 use mathlib.Core.List.{List, map}
