@@ -1,4 +1,5 @@
 ghost use Prim.Native.Nat.{_<_};
+use crate::random::next;
 use rows::row_index::RowIndex;
 
 const ROWS: usize = 256;
@@ -41,9 +42,7 @@ pub fn shuffled() -> [u64; 1280] {
         order[place] = place;
     }
     for place in 0..ROWS {
-        state = state
-            .wrapping_mul(6364136223846793005)
-            .wrapping_add(1442695040888963407);
+        state = next(state);
         let other = (state >> 33) as usize % ROWS;
         let kept = order[place];
         order[place] = order[other];

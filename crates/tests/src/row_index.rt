@@ -29,7 +29,10 @@ fn rows_of_any_width() -> Result<(), Fail> {
     check_eq(once, [2, 9, 2, 9, 0, 3, 1, 0])?;
     let places = index.in_order();
     check_eq(places.count, 3)?;
-    check_eq([places.start[0], places.start[1], places.start[2]], [2, 6, 0])?;
+    check_eq(
+        [places.start[0], places.start[1], places.start[2]],
+        [2, 6, 0],
+    )?;
     check_eq([places.end[0], places.end[1], places.end[2]], [4, 9, 2])
 }
 

@@ -140,7 +140,10 @@ fn itself_is_not_another() -> Result<(), Fail> {
 
 #[test]
 fn opening_example_of_refinement() -> Result<(), Fail> {
-    let Ok(graph) = read_graph(&[4, 3, 1, 0, 3, 1, 1, 1, 1, 3, 1, 2, 1, 2, 3, 1, 3], LARGEST_FORM) else {
+    let Ok(graph) = read_graph(
+        &[4, 3, 1, 0, 3, 1, 1, 1, 1, 3, 1, 2, 1, 2, 3, 1, 3],
+        LARGEST_FORM,
+    ) else {
         return Err(Fail::new("refused"));
     };
     let seen = Incidences::find(&graph);
@@ -148,6 +151,9 @@ fn opening_example_of_refinement() -> Result<(), Fail> {
     let mut start = Colouring::uniform();
     start.of[4] = 9;
     let refined = seen.refine(start).of;
-    check_eq([refined[0], refined[1], refined[2], refined[3]], [0, 1, 1, 2])?;
+    check_eq(
+        [refined[0], refined[1], refined[2], refined[3]],
+        [0, 1, 1, 2],
+    )?;
     check_eq(refined[4], 9).note("past the blank nodes nothing changes")
 }
