@@ -1,4 +1,4 @@
-ghost use Rattle.graph.specs.TripleRows.{Few, Whole, Fitting, Once};
+ghost use Rattle.graph.specs.TripleRows.{Few, Whole, Counted, Fitting, Once};
 use crate::encoded::WIDTH;
 
 pub mod reading;
@@ -24,6 +24,7 @@ pub struct SimpleGraph {
     rows: [u64; NUMBERS],
     ghost few: { Few blanks triples },
     ghost whole: { Whole triples rows },
+    ghost counted: { Counted triples rows },
     ghost fitting: { Fitting blanks triples rows },
     ghost once: { Once triples rows },
 }
