@@ -1,15 +1,14 @@
 -- A simple graph is well formed, and its triples are different: each of its rows is the row of the triple that it writes down, and the rows
 -- rise, so that no two of them are the same.
-use mathlib.Core.Path.{_≡_, refl, sym, _∙_, ap, subst}
-use mathlib.Core.Bool.{Bool, true}
-use mathlib.Core.List.{List, [], _∷_, map}
+use mathlib.Core.Path.{_≡_, sym, _∙_, ap, subst}
+use mathlib.Core.Bool.{true}
+use mathlib.Core.List.{List, [], map}
 use Prim.Native.Nat.{_*_, _+_, _-_, _<_, _≤_}
 use native.Mathlib.Omega.{arith}
 use lib.ListN.{length}
 use Rattle.std.specs.shelf.Lists.{All}
 use Rattle.std.proofs.shelf.Elements.{all-from-getD, all-map, all-weaker}
 use Rattle.theory.specs.Row.{Row, same-row, rows-of}
-use Rattle.theory.specs.Lists.{distinct}
 use Rattle.theory.specs.Triple.{width, triple-row, triple-of, triple-fits, same-triple, triples-of, Within}
 use Rattle.theory.specs.Graph.{different, WellFormed}
 use Rattle.theory.proofs.Row.{row-decider}
