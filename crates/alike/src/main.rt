@@ -1,4 +1,6 @@
 // Prints a line for each two graphs that it reads.
+#![tactic(auto)]
+
 use crate::answer::answers;
 use input::source::read_all;
 use std::io;

@@ -1,5 +1,7 @@
 // Reads graphs with numbers up to 2^64 - 1, which four bytes do not hold: a line is the room for the form and then the numbers of an encoded
 // graph, in decimal. The answer is a line.
+#![tactic(auto)]
+
 use anyhow::anyhow;
 use graph::simple::reading::read_graph;
 use std::io::{BufRead, BufReader, BufWriter, Write};

@@ -1,4 +1,6 @@
 // Prints a line for each graph that it reads.
+#![tactic(auto)]
+
 use crate::answer::answer_to;
 use input::source::read_all;
 use std::io;

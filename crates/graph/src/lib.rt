@@ -2,6 +2,8 @@
 //
 //     check(&[2, 1, 1, 0, 7, 0, 5])    // two blank nodes, and the triple x0 7 5: a header with both counts
 //     check(&[2, 1, 1, 2, 7, 0, 5])    // there is no x2: a refusal that prints as `refused 2 at 0`
+#![tactic(auto)]
+
 pub mod encoded;
 pub mod refusal;
 pub mod simple;

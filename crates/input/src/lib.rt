@@ -2,6 +2,8 @@
 //
 //     let source = Source::of_bytes(heap, &[1, 0, 0, 0, 0, 0, 0, 0, 9])?;
 //     source.graphs()    // the numbers 1 0, one blank node without triples; then the empty row, for the byte behind
+#![tactic(auto)]
+
 pub mod bytes;
 pub mod graphs;
 pub mod source;

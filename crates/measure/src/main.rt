@@ -1,4 +1,6 @@
 // Takes times. What was done goes to standard output, and is the same on every machine; how long it took goes to standard error.
+#![tactic(auto)]
+
 use crate::work::{Finding, Reading, Round, Rows, Stable, Work};
 use anyhow::anyhow;
 use graph::simple::LARGEST_FORM;

@@ -5,6 +5,8 @@
 //     index.put(0, 2) && index.put(2, 4) && index.put(4, 6) // true: 3 1 is put in twice
 //     index.write_all(&mut out)                             // 6 numbers: 2 9 3 1 3 1
 //     index.write_once(&mut out)                            // 4 numbers: 2 9 3 1
+#![tactic(auto)]
+
 mod copy;
 pub mod places;
 pub mod row;

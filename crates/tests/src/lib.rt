@@ -1,4 +1,6 @@
 // Tests of the core on worked examples and on damaged input.
+#![tactic(auto)]
+
 #[cfg(test)]
 mod encoded;
 #[cfg(test)]
