@@ -17,7 +17,7 @@ loop-two-preserved c =
       | else-two-eq2 w ↦ inr (w.if-two-eq2.false, ap (λ (r : Bor Row). r.now) w.second-is)
     ]) in (
       omega (arith, same_size),
-      so_far_more _ more c.answer-to.result _ _ left rest so_far step c.answer-to.ensures c.in-ok-push.ensures.items,
+      so_far_more _ more c.answer_to.result _ _ left rest so_far step c.answer_to.ensures c.in_ok-push.ensures.items,
     )
 
 pub returns : goal.returns
