@@ -6,7 +6,7 @@ use Rattle.input.proofs.bytes.numbers.Goals as goal
 pub loop-four-preserved : goal.loop-four-preserved
 loop-four-preserved c =
     let (size, so_far) = c.loop-four.invariant in
-    let (same_size, (cut, long)) = c.in-Some.ensures.steps in
+    let (same_size, (cut, long), _) = c.in-Some.ensures.steps in
     let x = c.read_number in
     let more = vec_items c.push.new.self in
     let rest = chunks_exact_rest c.next.new.self in (
