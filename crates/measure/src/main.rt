@@ -9,8 +9,8 @@ use refinement::incidences::Incidences;
 use std::io;
 use std::time::Instant;
 
+mod orders;
 mod random;
-mod rows;
 mod work;
 
 // Each piece of work is done in batches of so many turns. The fastest batch counts: whatever else the machine does only makes one slower.
@@ -48,13 +48,13 @@ fn run(rt: &HostRuntime) -> anyhow::Result<()> {
 // fifteen times as long.
 fn time_orders(rt: &HostRuntime) -> io::Result<()> {
     let rising = Rows {
-        numbers: rows::rising(),
+        numbers: orders::rising(),
     };
     let falling = Rows {
-        numbers: rows::falling(),
+        numbers: orders::falling(),
     };
     let shuffled = Rows {
-        numbers: rows::shuffled(),
+        numbers: orders::shuffled(),
     };
     let up = time(rt, "rows put in from the least on", &rising)?;
     let down = time(rt, "rows put in from the greatest on", &falling)?;

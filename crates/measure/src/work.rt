@@ -1,4 +1,4 @@
-use crate::rows::put_in_order;
+use crate::orders::put_in_order;
 use graph::simple::reading::read_graph;
 use graph::simple::{LARGEST_FORM, SimpleGraph};
 use refinement::colouring::Colouring;

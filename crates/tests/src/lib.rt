@@ -8,4 +8,4 @@ mod row_index;
 #[cfg(test)]
 mod simple;
 #[cfg(test)]
-mod stability;
+mod stable_colours;
