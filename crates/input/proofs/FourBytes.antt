@@ -22,7 +22,7 @@ numbers_in_rest [] h = refl
 -- a turn of the loop that reads the numbers: `was` are those before it, `more` those after it, and `all` those in all bytes
 pub so_far_more : (was more all bytes four rest : List ℕ) (size x : ℕ) → was ++ numbers_in bytes ≡ all → bytes ≡ four ++ rest →
     length four ≡ size → size ≡ 4 → x ≡ number four → more ≡ was ++ x ∷ [] → more ++ numbers_in rest ≡ all
-so_far_more was more all bytes four rest size x so_far cut long size_is x-is pushed =
+so_far_more was more all bytes four rest size x so_far cut long size_is x_is pushed =
     let front = append_assoc was (x ∷ []) (numbers_in rest) in
     let step = numbers_in_more four rest (omega arith) in
     cc

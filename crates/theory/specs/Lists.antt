@@ -5,7 +5,7 @@
 --   count same x xs     how often x is in xs
 --   index_of same x xs  the place of the first x in xs; the length of xs if there is none
 --   distinct same xs    each element of xs once
---   EachOnce d xs      no element of xs stands at two places; d stands for what is past the end, where nobody looks
+--   EachOnce d xs       no element of xs stands at two places; d stands for what is past the end, where nobody looks
 use Rattle.std.specs.Prelude.{◌≡◌, ℕ, suc, ◌<◌, Bool, true, false, cond, List, [], ◌∷◌, length, slice_index_or}
 use Rattle.std.specs.List.{range_with_len}
 
