@@ -3,9 +3,11 @@
 
 usage: python3 tools/respell.py [--names]     at the top of the repository
 
-Only names with a dash, and words with a capital inside, change. A name that a check makes (of a goal, an invariant, a measure, or a step
-of the code behind `c.`) stays as it is, and so do functions of src/, strings, inputs and outputs. It stops, and changes nothing, where two
-names would fall together. --names prints the old and the new name of each, and changes nothing.
+Only names with a dash or a prime, and words with a capital inside, change, wherever they stand, in comments too; `getD` within a name is
+`get_or`. A name that a check makes (of a goal, an invariant, a measure, or a step of the code behind `c.`) stays as it is, and so do
+functions of src/, strings, inputs and outputs. It stops, and changes nothing, where two names would fall together. --names prints the old
+and the new name of each, and changes nothing. It was run once, on the repository as the kit's script for older repositories left it
+(docs/PORT.md), and finds nothing more to turn.
 """
 
 import collections

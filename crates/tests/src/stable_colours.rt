@@ -40,7 +40,7 @@ fn worked_examples(rt: HostRuntime) -> Result<(), Fail> {
     assert_eq!(rt;
         stable_colours(&[
             2, 4, 1, 0, 1, 0, 5, 1, 1, 2, 1, 0, 1, 1, 1, 0, 5, 1, 1, 1, 0, 5,
-        ],)?,
+        ])?,
         colours(&[1, 0]),
         "the same, numbered the other way round, with a triple repeated"
     );
@@ -52,14 +52,14 @@ fn worked_examples(rt: HostRuntime) -> Result<(), Fail> {
     assert_eq!(rt;
         stable_colours(&[
             4, 4, 1, 0, 3, 1, 1, 1, 1, 3, 1, 2, 1, 2, 3, 1, 3, 1, 3, 3, 1, 0,
-        ],)?,
+        ])?,
         colours(&[0, 0, 0, 0]),
         "a ring of four"
     );
     assert_eq!(rt;
         stable_colours(&[
             4, 4, 1, 0, 3, 1, 1, 1, 1, 3, 1, 0, 1, 2, 3, 1, 3, 1, 3, 3, 1, 2,
-        ],)?,
+        ])?,
         colours(&[0, 0, 0, 0]),
         "two rings of two"
     );
