@@ -2,15 +2,15 @@
 
 .PHONY: demo measure form alike
 
-# Proves and builds a program, which runs once on the input of its crate, and puts it where the commands below look for it.
-form alike:
-	cd crates/$@ && rt run > /dev/null
-	mkdir -p target/bin && cp crates/$@/out/$@ target/bin
-
-# Runs the two programs on the examples; fails if they print anything else than examples/demo.txt.
+# Builds the two programs and runs them on the examples; fails if they print anything else than examples/demo.txt.
 demo: form alike
 	examples/demo "$(CURDIR)/target/bin" | tee target/demo.txt
 	cmp target/demo.txt examples/demo.txt
+
+# Proves and builds a program, which runs once on the input of its crate, and puts it into target/bin.
+form alike:
+	cd crates/$@ && rt run > /dev/null
+	mkdir -p target/bin && cp crates/$@/out/$@ target/bin
 
 # Builds the program that takes times, and runs it with 1 MiB of stack: it fails if the core's local arrays and its own need more. What was
 # done goes to standard output, the times to standard error.

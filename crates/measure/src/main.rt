@@ -45,7 +45,7 @@ fn run(rt: &HostRuntime) -> anyhow::Result<()> {
 }
 
 // Rows put into an index in order take at most three times what they take in random order: a tree that is not kept shallow would take some
-// ten times as long.
+// twenty times as long.
 fn time_orders(rt: &HostRuntime) -> io::Result<()> {
     let rising = Rows {
         numbers: orders::rising(),
