@@ -8,7 +8,6 @@ mod Multiples
 pub mod Overwritten
 mod Placing
 mod Rotation
-mod RowPlaces
 mod Shape
 mod Soundness
 mod TreeNodes

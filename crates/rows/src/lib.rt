@@ -8,7 +8,6 @@
 #![tactic(auto)]
 
 mod copy;
-pub mod places;
 pub mod row;
 pub mod row_index;
 mod row_tree;
