@@ -6,6 +6,7 @@ pub mod IndexUse
 mod Insertion
 mod Multiples
 pub mod Overwritten
+mod NodeWrites
 mod Placing
 mod Rotation
 mod Shape

@@ -1,4 +1,5 @@
 pub mod RowOrder
+pub mod Node
 pub mod RowTree
 pub mod RowTreeSteps
 pub mod RowIndex
