@@ -1,5 +1,4 @@
 mod Different
-mod Rows
 pub mod SimpleGraph
-mod Sizes
 mod TripleRows
+mod Verdict

@@ -1,3 +1,4 @@
 pub mod Verdicts
+pub mod Triple
 pub mod TripleRows
 pub mod SimpleGraph

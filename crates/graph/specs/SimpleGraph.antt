@@ -1,22 +1,10 @@
--- What a simple graph and its triples are.
+-- What a simple graph is.
 --
 --   graph_of s     the graph that s is
---   term_is x      the term that x is
---   triple_is t    the triple that t is
-use Rattle.theory.specs.Triple as theory
 use Rattle.theory.specs.Triple.{triples_of}
 use Rattle.theory.specs.Graph.{Graph}
 use Rattle.graph.specs.declared.simple.SimpleGraph.{SimpleGraph}
-use Rattle.graph.specs.declared.triple.Term.{Term}
-use Rattle.graph.specs.declared.triple.Term.TheVariants.{Named, Blank}
-use Rattle.graph.specs.declared.triple.Triple.{Triple}
+pub use Rattle.graph.specs.Triple.{term_is, triple_is}
 
 abbrev pub graph_of : SimpleGraph → Graph
 graph_of s = record { blanks = s.blanks; triples = triples_of s.triples s.rows }
-
-abbrev pub term_is : Term → theory.Term
-term_is (Named n) = theory.named n
-term_is (Blank k) = theory.blank k
-
-abbrev pub triple_is : Triple → theory.Triple
-triple_is t = record { subject = term_is t.subject; predicate = t.predicate; object = term_is t.object }

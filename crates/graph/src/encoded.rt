@@ -1,9 +1,11 @@
-ghost use Rattle.std.specs.Prelude.{◌≡◌, ◌+◌, ◌*◌, ◌<◌, ◌≤◌, length, drop, IfOk, MatchOption, MatchResult};
-ghost use Rattle.theory.specs.Triple.{name_fits, term_fits, triple_fits};
+ghost use Rattle.std.specs.Prelude.{◌≡◌, ◌+◌, ◌*◌, ◌<◌, ◌≤◌, length, drop, IfOk, IfErr, MatchOption, MatchResult, not, position};
+ghost use Rattle.theory.specs.Row.{rows_of};
+ghost use Rattle.theory.specs.Triple.{width, triple_fits};
 ghost use Rattle.theory.specs.Encoding.{graph_length, header_verdict, rows_verdict, encoding_verdict};
 ghost use Rattle.graph.specs.Verdicts.{number_of, verdict_of, Caused, Headed};
 
 use crate::refusal::Refusal;
+use crate::triple::Triple;
 
 const MOST_BLANK_NODES: u64 = 32;
 
@@ -24,20 +26,22 @@ pub fn whole_length(graph: &[u64]) -> Option<usize>
     ensures { MatchOption result (length graph.now < graph_length graph.now) (λ n. (n ≡ graph_length graph.now) × (n ≤ length graph.now)) }
 {
     // The count may be as large as a number gets, so it is compared with how many triples there is room for: a multiple of it could wrap.
-    if graph.len() < 2 || graph[1] > ((graph.len() - 2) / WIDTH) as u64 {
+    let [_, triples, rows @ ..] = graph else {
+        return None;
+    };
+    if *triples > (rows.len() / WIDTH) as u64 {
         return None;
     }
-    Some(2 + WIDTH * graph[1] as usize)
+    Some(2 + WIDTH * *triples as usize)
 }
 
 pub fn read_header(graph: &[u64]) -> Result<Header, Refusal>
     ensures verdict { verdict_of result ≡ header_verdict graph.now }
+    ensures number { IfErr result (λ e. number_of e ≡ 1) }
     ensures cause { Caused graph.now result }
     ensures header { IfOk result (Headed graph.now) }
 {
-    let Some(_) = whole_length(graph) else {
-        return Err(Refusal::CutShort(graph.len() as u64));
-    };
+    whole_length(graph).ok_or(Refusal::CutShort(graph.len() as u64))?;
     let blanks = graph[0];
     if blanks > MOST_BLANK_NODES {
         return Err(Refusal::TooManyBlankNodes(blanks));
@@ -52,51 +56,39 @@ pub fn read_header(graph: &[u64]) -> Result<Header, Refusal>
 // The header, if the numbers encode a graph. What comes behind the last triple is not looked at.
 pub fn check(graph: &[u64]) -> Result<Header, Refusal>
     ensures verdict { verdict_of result ≡ encoding_verdict graph.now }
+    ensures number { IfErr result (λ e. number_of e < 3) }
     ensures cause { Caused graph.now result }
     ensures header { IfOk result (Headed graph.now) }
 {
-    let read = read_header(graph);
-    let Ok(header) = read else {
-        return read;
-    };
+    let header = read_header(graph)?;
     check_rows(graph, header)
 }
 
 // The header again, if each of its rows writes a triple down.
 fn check_rows(graph: &[u64], header: Header) -> Result<Header, Refusal>
-    requires few { header.triples ≤ 65536 }
-    requires whole { 2 + 5 * header.triples ≤ length graph.now }
+    requires { Headed graph.now header }
     ensures verdict { verdict_of result ≡ rows_verdict header.blanks header.triples (drop 2 graph.now) }
     ensures cases { MatchResult result (λ h. h ≡ header) (λ e. number_of e ≡ 2) }
 {
-    for row in 0..header.triples {
-        let start = 2 + WIDTH * row as usize;
-        if !row_fits(header.blanks, &graph[start..start + WIDTH]) {
-            return Err(Refusal::NoTriple(row));
-        }
-    }
-    Ok(header)
-}
-
-fn row_fits(blanks: u64, row: &[u64]) -> bool
-    requires { length row.now ≡ 5 }
-    ensures { result ≡ triple_fits blanks row.now }
-{
-    term_fits(blanks, row[0], row[1]) && name_fits(row[2]) && term_fits(blanks, row[3], row[4])
-}
-
-fn term_fits(blanks: u64, kind: u64, number: u64) -> bool
-    ensures { result ≡ term_fits blanks kind number }
-{
-    match kind {
-        0 => name_fits(number),
-        1 => number < blanks,
-        _ => false,
+    match first_fault(rows(graph, header), header.blanks) {
+        Some(row) => Err(Refusal::NoTriple(row as u64)),
+        None => Ok(header),
     }
 }
 
-fn name_fits(name: u64) -> bool
-    ensures { result ≡ name_fits name }
+// The first row that writes no triple down.
+fn first_fault(rows: &[[u64; WIDTH]], blanks: u64) -> Option<usize>
+    ensures { result ≡ position (λ row. not (triple_fits blanks row)) rows.now }
 {
-    name < 1 << 32
+    rows.iter()
+        .position(|row| Triple::read(row, blanks).is_none())
+}
+
+// The rows of the triples as written.
+pub(crate) fn rows(graph: &[u64], header: Header) -> &[[u64; WIDTH]]
+    requires { Headed graph.now header }
+    ensures { result.now ≡ rows_of width header.triples (drop 2 graph.now) }
+{
+    let (rows, _) = graph[2..].as_chunks::<WIDTH>();
+    &rows[..header.triples as usize]
 }

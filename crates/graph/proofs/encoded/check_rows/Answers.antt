@@ -1,15 +1,11 @@
-use Rattle.std.proofs.Common.{sym, refl, ◌∙◌}
-use Rattle.graph.proofs.Rows.{rows_left_more, rows_left_fault, rows_left_all}
+use Rattle.std.proofs.Common.{ap, ◌∙◌}
+use Rattle.theory.specs.Triple.{triple_fits}
+use Rattle.theory.specs.Refusal.{first_fault}
+use Rattle.graph.proofs.Verdict.{fault_told}
 use Rattle.graph.proofs.encoded.check_rows.Goals as goal
 
-pub loop-row-preserved : goal.loop-row-preserved
-loop-row-preserved c = c.loop-row.invariant ∙ rows_left_more _ _ _ _ c.loop-row-test.true c.if-not-row_fits.ensures
+pub returns-in-Some-clause-verdict : goal.returns-in-Some-clause-verdict
+returns-in-Some-clause-verdict c = fault_told (triple_fits c.args.header.blanks) _ _ c.in-Some.ensures ∙ ap (first_fault (triple_fits c.args.header.blanks) 2 0) c.rows.ensures
 
-pub returns-then-not-row_fits : goal.returns-then-not-row_fits
-returns-then-not-row_fits c = record {
-  verdict = sym (c.loop-row.invariant ∙ rows_left_fault _ _ _ _ c.loop-row-test.true c.if-not-row_fits.ensures);
-  cases = refl;
-}
-
-pub returns : goal.returns
-returns c = record { verdict = sym (c.loop-row.invariant ∙ rows_left_all _ _ _ _ c.loop-row-test.false); cases = refl }
+pub returns-in-None-clause-verdict : goal.returns-in-None-clause-verdict
+returns-in-None-clause-verdict c = fault_told (triple_fits c.args.header.blanks) _ _ c.in-None.ensures ∙ ap (first_fault (triple_fits c.args.header.blanks) 2 0) c.rows.ensures
