@@ -1,4 +1,4 @@
 mod Different
+mod Rows
 pub mod SimpleGraph
-mod TripleRows
 mod Verdict

@@ -1,51 +1,57 @@
--- A simple graph is well formed, and its triples are different: each of its rows is the row of the triple that it writes down, and the rows
--- rise, so that no two of them are the same.
-use Rattle.std.proofs.Common.{◌≡◌, ◌+◌, ◌-◌, ◌*◌, ◌<◌, ◌≤◌, true, List, [], map, length, sym, ap, ◌∙◌, subst, arith}
-use Rattle.std.specs.List.{AllByRecursion as All}
-use Rattle.std.proofs.ByRecursion.{All-from_get_or, All-map, All-weaker}
-use Rattle.theory.specs.Row.{Row, same_row, rows_of}
-use Rattle.theory.specs.Triple.{width, triple_row, triple_of, triple_fits, same_triple, triples_of, Within}
+-- A simple graph is well formed, and its triples are different: their rows rise, so that no two of them are the same.
+use Rattle.std.proofs.Common.{◌≡◌, ℕ, ◌<◌, ◌≤◌, true, List, [], ◌∷◌, map, length, take, get_or, Option, Some, None, MatchOption, sym, refl, ap, ◌∙◌, subst, arith, length-take}
+use Rattle.std.proofs.lemmas.List.{length-map}
+use Rattle.std.proofs.lemmas.List.Elements.{All-map, recursion_from_All}
+use Rattle.theory.specs.Row.{Row, same_row}
+use Rattle.theory.specs.Triple.{Triple, triple_row, triple_of, same_triple, Within}
+use Rattle.theory.specs.Lists.{member}
 use Rattle.theory.specs.Graph.{different, WellFormed}
 use Rattle.theory.proofs.Row.{row_decider}
-use Rattle.theory.proofs.RowsOf.{length_rows_of, get_or_rows_of, rows_of_wide}
-use Rattle.theory.proofs.Lists.{all_member, apart_map, distinct_apart}
+use Rattle.theory.proofs.Lists.{Apart, all_member, apart_map, distinct_apart}
 use Rattle.theory.proofs.Multiset.{Rising, rising_sorted_set, rising_apart}
-use Rattle.theory.proofs.Triple.{triple_decider, fits_within}
 use Rattle.theory.proofs.ReadBack.{IsTripleRow}
-use Rattle.theory.proofs.Written.{rows_fit}
+use Rattle.theory.proofs.Triple.{triple_decider, triple_of_row, fits_within}
+use Rattle.graph.specs.Triple.{triple_is}
 use Rattle.graph.specs.SimpleGraph.{graph_of}
+use Rattle.graph.specs.declared.triple.Triple as code
 use Rattle.graph.specs.declared.simple.SimpleGraph.{SimpleGraph}
-use Rattle.graph.proofs.TripleRows.{length_triples}
+
+-- triples are read off their rows
+triples_again : (ts : List Triple) → map triple_of (map triple_row ts) ≡ ts
+triples_again [] = refl
+triples_again (t ∷ ts) = let e = triple_of_row t in let ih = triples_again ts in cc
 
 module _ (s : SimpleGraph) where
-  abbrev rows : List Row
-  rows = rows_of width s.triples s.rows
+  abbrev triples : List Triple
+  triples = (graph_of s).triples
 
-  pub few_triples : length (graph_of s).triples ≤ 256
-  few_triples = let a = length_triples s.triples s.rows in let f = s.few in omega arith
+  pub few_triples : length triples ≤ 256
+  few_triples = omega (arith, length-map (take s.count s.triples) triple_is, length-take s.count s.triples, s.few)
 
-  each_fits : All (λ r. triple_fits s.blanks r ≡ true) rows
-  each_fits =
-      let k = length_rows_of width s.triples s.rows in
-      All-from_get_or (λ r. triple_fits s.blanks r ≡ true) rows []
-      (λ i h.
-      let l : i < s.triples = omega arith in
-      let e : width * i + width - width * i ≡ width = omega arith in
-      rw (get_or_rows_of width s.triples i s.rows l) (rw e at (s.fitting i l)))
+  triple_within : (i : ℕ) (d : Triple) → i < length triples → Within s.blanks (get_or triples i d)
+  triple_within i d h = let t = get_or triples i d in subst (Within s.blanks) (triple_of_row t) (fits_within s.blanks (triple_row t) (s.fitting i d h))
 
-  each_is_row : All IsTripleRow rows
-  each_is_row = rows_fit s.blanks rows (rows_of_wide width s.triples s.rows s.whole) each_fits
+  -- what is found at a place is one of its triples
+  pub found_within : (place : ℕ) (found : Option code.Triple) →
+      MatchOption found (length triples ≤ place) (λ t. (place < length triples) × (triple_is t ≡ get_or triples place (triple_is t))) →
+      MatchOption found (length triples ≤ place) (λ t. (place < length triples) × (triple_is t ≡ get_or triples place (triple_is t)) × Within s.blanks (triple_is t))
+  found_within place None h = h
+  found_within place (Some t) h = (h.0, h.1, subst (Within s.blanks) (sym h.1) (triple_within place (triple_is t) h.0))
 
   pub well_formed : WellFormed (graph_of s)
-  unfolding triples_of
-  well_formed t h =
-      all_member same_triple triple_decider (Within s.blanks) (map triple_of rows) t
-      (All-map (Within s.blanks) triple_of rows (All-weaker (λ r. triple_fits s.blanks r ≡ true) (λ r. Within s.blanks (triple_of r)) (fits_within s.blanks) rows each_fits)) h
+  well_formed t h = all_member same_triple triple_decider (Within s.blanks) triples t (recursion_from_All (Within s.blanks) triples triple_within) h
 
-  pub different_triples : different (graph_of s) ≡ (graph_of s).triples
-  unfolding triples_of
+  abbrev rows : List Row
+  rows = map triple_row triples
+
+  row_again : (r : Row) → member same_row r rows ≡ true → IsTripleRow r
+  row_again r =
+      all_member same_row row_decider IsTripleRow rows r
+      (recursion_from_All IsTripleRow rows (All-map IsTripleRow triple_row triples (λ k t h. ap triple_row (triple_of_row (get_or triples k t)))))
+
+  pub different_triples : different (graph_of s) ≡ triples
   different_triples =
-      distinct_apart same_triple (map triple_of rows)
+      distinct_apart same_triple triples
+      (subst (Apart same_triple) (triples_again triples)
       (apart_map same_row row_decider same_triple triple_decider triple_of rows (rising_apart rows (subst Rising s.once (rising_sorted_set rows)))
-      (λ q r p m e.
-      sym (all_member same_row row_decider IsTripleRow rows q each_is_row p) ∙ ap triple_row e ∙ all_member same_row row_decider IsTripleRow rows r each_is_row m))
+      (λ q r p m e. sym (row_again q p) ∙ ap triple_row e ∙ row_again r m)))

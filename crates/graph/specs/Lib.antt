@@ -1,4 +1,4 @@
 pub mod Verdicts
 pub mod Triple
-pub mod TripleRows
+pub mod Triples
 pub mod SimpleGraph

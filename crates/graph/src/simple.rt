@@ -1,6 +1,7 @@
-ghost use Rattle.graph.specs.TripleRows.{Few, Whole, Counted, Fitting, Once};
+ghost use Rattle.graph.specs.Triples.{Few, Whole, Fitting, Once};
 
 use crate::encoded::WIDTH;
+use crate::triple::Triple;
 
 pub mod reading;
 mod triples;
@@ -17,15 +18,15 @@ const NUMBERS: usize = WIDTH * MOST_DIFFERENT;
 // A node of the index for each of them, and one more.
 const NODES: usize = MOST_DIFFERENT + 1;
 
-// A graph as it is worked with: how many blank nodes, and its different triples in order, five numbers each.
+// A graph as it is worked with: how many blank nodes, and its different triples in order, which are the first of an array. A vector would
+// want an allocator, and could not be copied.
 #[derive(Clone, Copy)]
 pub struct SimpleGraph {
     blanks: usize,
-    triples: usize,
-    rows: [u64; NUMBERS],
-    ghost few: { Few blanks triples },
-    ghost whole: { Whole triples rows },
-    ghost counted: { Counted triples rows },
-    ghost fitting: { Fitting blanks triples rows },
-    ghost once: { Once triples rows },
+    count: usize,
+    triples: [Triple; MOST_DIFFERENT],
+    ghost few: { Few blanks count },
+    ghost whole: { Whole count triples },
+    ghost fitting: { Fitting blanks count triples },
+    ghost once: { Once count triples },
 }
