@@ -14,7 +14,8 @@ const MOST_WRITTEN: u64 = 65536;
 // How many numbers a triple is written with.
 pub const WIDTH: usize = 5;
 
-// The counts that an encoded graph begins with.
+// The counts that an encoded graph begins with. Anyone may write any two counts here, so that they are those of some numbers is said with these
+// (`Headed`).
 #[derive(Clone, Copy, PartialEq, Eq, Debug)]
 pub struct Header {
     pub blanks: u64,
@@ -25,16 +26,18 @@ pub struct Header {
 pub fn whole_length(graph: &[u64]) -> Option<usize>
     ensures { MatchOption result (length graph.now < graph_length graph.now) (λ n. (n ≡ graph_length graph.now) × (n ≤ length graph.now)) }
 {
-    // The count may be as large as a number gets, so it is compared with how many triples there is room for: a multiple of it could wrap.
     let [_, triples, rows @ ..] = graph else {
         return None;
     };
+    // The count may be as large as a number gets, so it is compared with how many triples there is room for: a multiple of it could wrap.
     if *triples > (rows.len() / WIDTH) as u64 {
         return None;
     }
     Some(2 + WIDTH * *triples as usize)
 }
 
+// The counts, if they are within their bounds. Which cause a refusal tells is a fact about the numbers too, so no type of the answer can carry
+// it, and what hands an answer on says it again (`Caused`).
 pub fn read_header(graph: &[u64]) -> Result<Header, Refusal>
     ensures verdict { verdict_of result ≡ header_verdict graph.now }
     ensures number { IfErr result (λ e. number_of e ≡ 1) }
@@ -61,16 +64,8 @@ pub fn check(graph: &[u64]) -> Result<Header, Refusal>
     ensures header { IfOk result (Headed graph.now) }
 {
     let header = read_header(graph)?;
-    check_rows(graph, header)
-}
-
-// The header again, if each of its rows writes a triple down.
-fn check_rows(graph: &[u64], header: Header) -> Result<Header, Refusal>
-    requires { Headed graph.now header }
-    ensures verdict { verdict_of result ≡ rows_verdict header.blanks header.triples (drop 2 graph.now) }
-    ensures cases { MatchResult result (λ h. h ≡ header) (λ e. number_of e ≡ 2) }
-{
-    match first_fault(rows(graph, header), header.blanks) {
+    let (rows, _) = graph[2..].as_chunks();
+    match first_fault(&rows[..header.triples as usize], header.blanks) {
         Some(row) => Err(Refusal::NoTriple(row as u64)),
         None => Ok(header),
     }
@@ -82,13 +77,4 @@ fn first_fault(rows: &[[u64; WIDTH]], blanks: u64) -> Option<usize>
 {
     rows.iter()
         .position(|row| Triple::read(row, blanks).is_none())
-}
-
-// The rows of the triples as written.
-pub(crate) fn rows(graph: &[u64], header: Header) -> &[[u64; WIDTH]]
-    requires { Headed graph.now header }
-    ensures { result.now ≡ rows_of width header.triples (drop 2 graph.now) }
-{
-    let (rows, _) = graph[2..].as_chunks::<WIDTH>();
-    &rows[..header.triples as usize]
 }
