@@ -6,16 +6,12 @@ use std::alloc::{AllocError, Global};
 pub fn numbers(heap: Global, bytes: &[u8]) -> Result<Vec<u64>, AllocError>
     ensures { IfOk result (λ v. v.items ≡ numbers_in bytes.now) }
 {
-    let mut numbers = Vec::with_capacity(heap, bytes.len() / 4)?;
-    for four in bytes.chunks_exact(4) {
-        numbers.push(read_number(four))?;
-    }
-    Ok(numbers)
+    let (fours, _) = bytes.as_chunks::<4>();
+    fours.iter().map(read_number).collect(heap)
 }
 
-fn read_number(four: &[u8]) -> u64
-    requires { length four.now ≡ 4 }
+fn read_number(four: &[u8; 4]) -> u64
     ensures { result ≡ number four.now }
 {
-    u64::from(u32::from_le_bytes([four[0], four[1], four[2], four[3]]))
+    u64::from(u32::from_le_bytes(*four))
 }

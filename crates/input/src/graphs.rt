@@ -1,6 +1,6 @@
-ghost use Rattle.std.specs.Prelude.{◌≡◌, [], ◌∷◌, length, MatchOption};
+ghost use Rattle.std.specs.Prelude.{◌≡◌, ◌∷◌};
 ghost use Rattle.input.specs.Graphs.{graphs_in, graphs_after, graphs_left};
-ghost use Rattle.std.specs.Iterator.{at_most};
+ghost use Rattle.std.specs.Iterator.{YieldsFirstRef, item_count};
 
 use graph::encoded::whole_length;
 
@@ -9,7 +9,7 @@ use graph::encoded::whole_length;
 pub struct Graphs<'a> {
     // Nothing, once the input has ended.
     rest: Option<&'a [u64]>,
-    // Whether one to three bytes that make no number come behind the numbers.
+    // Whether one to three bytes that make no number come behind the numbers, which are there either way: so no Option holds both.
     trailing_bytes: bool,
 }
 
@@ -27,14 +27,12 @@ impl<'a> Graphs<'a> {
 impl<'a> Iterator for Graphs<'a> {
     type Item = &'a [u64];
 
-    ghost next_gives = { λ s r t. MatchOption r ((graphs_left s ≡ []) × (graphs_left t ≡ [])) (λ x. graphs_left s ≡ x.now ∷ graphs_left t) };
+    ghost next_gives = { YieldsFirstRef graphs_left };
 
-    ghost remaining = { λ s. at_most (length (graphs_left s)) };
+    ghost remaining = { item_count graphs_left };
 
     fn next(&mut self) -> Option<&'a [u64]> {
-        let Some(rest) = self.rest else {
-            return None;
-        };
+        let rest = self.rest?;
         let (graph, behind) = first_graph(rest, self.trailing_bytes);
         self.rest = behind;
         Some(graph)
@@ -42,6 +40,7 @@ impl<'a> Iterator for Graphs<'a> {
 }
 
 // The first graph, and the numbers behind it, unless the input ends there.
+#[tactic(auto, using(crate::proofs::FirstGraph::cut_short, crate::proofs::FirstGraph::whole))]
 fn first_graph(numbers: &[u64], trailing_bytes: bool) -> (&[u64], Option<&[u64]>)
     ensures { graphs_in trailing_bytes numbers.now ≡ result.0.now ∷ graphs_after trailing_bytes result.1 }
 {

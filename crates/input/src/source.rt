@@ -1,18 +1,19 @@
-ghost use Rattle.std.specs.Prelude.{◌≡◌, IfOk};
+ghost use Rattle.std.specs.Prelude.{◌≡◌, IfOk, IfSome};
 ghost use Rattle.input.specs.Graphs.{graphs_left};
 ghost use Rattle.input.specs.Source.{source_graphs, graphs_in_bytes};
 
 use crate::bytes::numbers;
 use crate::graphs::Graphs;
 use std::alloc::{AllocError, Global};
+use std::fs::File;
 use std::io::Read;
-use std::{env, fs, io};
+use std::{env, io};
 
 // A file, or standard input, read whole.
 #[derive(Drop)]
 pub struct Source {
     numbers: Vec<u64>,
-    // Whether one to three bytes that make no number come behind the numbers.
+    // Whether one to three bytes that make no number come behind the numbers, which are there either way: so no Option holds both.
     trailing_bytes: bool,
 }
 
@@ -40,19 +41,21 @@ pub fn read_all(rt: &HostRuntime) -> io::Result<Vec<Source>> {
         sources.push(named(rt, name.as_str(), read_file(rt, name.as_str()))?)?;
     }
     if sources.is_empty() {
-        sources.push(named(rt, "standard input", read_stdin(rt))?)?;
+        sources.push(named(rt, "standard input", read_whole(rt, rt.stdin()))?)?;
     }
     Ok(sources)
 }
 
 fn read_file(rt: &HostRuntime, name: &str) -> io::Result<Source> {
-    let bytes = fs::read(rt, name)?;
-    Ok(Source::of_bytes(rt.alloc(), bytes.as_slice())?)
+    read_whole(rt, File::open(rt, name)?)
 }
 
-fn read_stdin(rt: &HostRuntime) -> io::Result<Source> {
+// All that a reader gives.
+fn read_whole<R: Read + Drop>(rt: &HostRuntime, mut reader: R) -> io::Result<Source>
+    ensures { IfOk result (λ s. IfSome (R.remaining reader) (λ bytes. source_graphs s ≡ graphs_in_bytes bytes)) }
+{
     let mut bytes = Vec::new(rt.alloc());
-    rt.stdin().read_to_end(&mut bytes)?;
+    reader.read_to_end(&mut bytes)?;
     Ok(Source::of_bytes(rt.alloc(), bytes.as_slice())?)
 }
 
