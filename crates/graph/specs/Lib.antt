@@ -1,3 +1,4 @@
+pub mod Answer
 pub mod Verdicts
 pub mod Triple
 pub mod Triples

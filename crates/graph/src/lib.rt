@@ -7,6 +7,7 @@
 // one into the other, where it is proved that nothing is lost.
 #![tactic(auto)]
 
+pub mod answer;
 pub mod encoded;
 pub mod refusal;
 pub mod simple;
