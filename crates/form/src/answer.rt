@@ -1,36 +1,24 @@
-ghost use Rattle.std.specs.Prelude.{◌≡◌, Some};
+ghost use Rattle.std.specs.Prelude.{◌≡◌, IfOk, string_bytes};
 ghost use Rattle.theory.specs.Encoding.{graph_verdict, largest_form};
-ghost use Rattle.graph.specs.Verdicts.{line};
-ghost use Rattle.form.specs.Answer.{verdict_of};
+ghost use Rattle.graph.specs.Verdicts.{verdict_of, line};
 
+use graph::answer::Answer;
 use graph::refusal::Refusal;
 use graph::simple::LARGEST_FORM;
 use graph::simple::reading::read_graph;
-use std::fmt;
+use std::alloc::{AllocError, Global};
 
-// What is told of a graph.
-#[derive(Clone, Copy)]
-pub enum Answer {
-    Accepted,
-    Refused(Refusal),
+// The line that is printed for a graph. It is made here, and not by `main`, so that all of its text is proved.
+pub fn line_for(heap: Global, graph: &[u64]) -> Result<String, AllocError>
+    ensures { IfOk result (λ s. string_bytes s ≡ line (graph_verdict graph.now largest_form)) }
+{
+    let answer = Answer(answer_to(graph));
+    format!(in heap; "{answer}")
 }
 
-impl fmt::Display for Answer {
-    ghost output = { λ a. Some (line (verdict_of a)) };
-
-    fn fmt<W: fmt::Write>(&self, f: &mut fmt::Formatter<W>) -> fmt::Result {
-        match self {
-            Answer::Accepted => write!(f, "accepted"),
-            Answer::Refused(refusal) => write!(f, "{refusal}"),
-        }
-    }
-}
-
-pub fn answer_to(graph: &[u64]) -> Answer
+pub fn answer_to(graph: &[u64]) -> Result<(), Refusal>
     ensures { verdict_of result ≡ graph_verdict graph.now largest_form }
 {
-    match read_graph(graph, LARGEST_FORM) {
-        Ok(_) => Answer::Accepted,
-        Err(refusal) => Answer::Refused(refusal),
-    }
+    read_graph(graph, LARGEST_FORM)?;
+    Ok(())
 }

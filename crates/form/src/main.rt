@@ -1,7 +1,7 @@
 // Prints a line for each graph that it reads.
 #![tactic(auto)]
 
-use crate::answer::answer_to;
+use crate::answer::line_for;
 use input::source::read_all;
 use std::io;
 use std::io::{BufWriter, Write};
@@ -9,12 +9,13 @@ use std::io::{BufWriter, Write};
 mod answer;
 
 fn main(rt: HostRuntime) -> io::Result<()> {
+    let heap = rt.alloc();
     let sources = read_all(&rt)?;
-    let mut out = BufWriter::new(rt.alloc(), rt.stdout())?;
+    let mut out = BufWriter::new(heap, rt.stdout())?;
     for source in sources.iter() {
         for graph in source.graphs() {
-            let answer = answer_to(graph);
-            writeln!(out, "{answer}")?;
+            let line = line_for(heap, graph)?;
+            writeln!(out, "{line}")?;
         }
     }
     out.flush()
