@@ -1,52 +1,51 @@
-ghost use Rattle.std.specs.Prelude.{◌≡◌, map, IfOk, Some};
-ghost use Rattle.alike.specs.Answer.{verdict_of, pair_verdict, in_twos, line, held};
+ghost use Rattle.std.specs.Prelude.{◌≡◌, ◌<◌, map, length, IfOk, Some};
+ghost use Rattle.alike.specs.Answer.{told, verdict_of, pair_verdict, of_two, in_twos, line, held};
 
+use graph::answer::Answer;
 use graph::refusal::Refusal;
 use graph::simple::LARGEST_FORM;
 use graph::simple::reading::read_graph;
 use std::alloc::{AllocError, Global};
 use std::fmt;
 
-// What is told of two graphs. A refusal of the first comes before one of the second.
-#[derive(Clone, Copy)]
-pub enum Answer {
-    Accepted,
+// Which of two graphs is refused, and why. A refusal of the first comes before one of the second.
+#[derive(Clone, Copy, PartialEq, Eq, Debug)]
+pub enum PairRefusal {
     First(Refusal),
     Second(Refusal),
 }
 
-impl fmt::Display for Answer {
-    ghost output = { λ a. Some (line (verdict_of a)) };
+impl fmt::Display for PairRefusal {
+    ghost output = { λ r. Some (line (told r)) };
 
     fn fmt<W: fmt::Write>(&self, f: &mut fmt::Formatter<W>) -> fmt::Result {
         match self {
-            Answer::Accepted => write!(f, "accepted"),
-            Answer::First(refusal) => write!(f, "first {refusal}"),
-            Answer::Second(refusal) => write!(f, "second {refusal}"),
+            PairRefusal::First(refusal) => write!(f, "first {refusal}"),
+            PairRefusal::Second(refusal) => write!(f, "second {refusal}"),
         }
     }
 }
 
-pub fn answer_to(first: &[u64], second: &[u64]) -> Answer
-    ensures { verdict_of result ≡ pair_verdict first.now second.now }
+pub fn answer_to(first: &[u64], second: &[u64]) -> Result<(), PairRefusal>
+    ensures verdict { verdict_of result ≡ pair_verdict first.now second.now }
+    ensures printed { ⟦<Answer<PairRefusal> as fmt::Display>⟧.output record { 0 = result } ≡ Some (line (pair_verdict first.now second.now)) }
 {
-    if let Err(refusal) = read_graph(first, LARGEST_FORM) {
-        return Answer::First(refusal);
-    }
-    if let Err(refusal) = read_graph(second, LARGEST_FORM) {
-        return Answer::Second(refusal);
-    }
-    Answer::Accepted
+    read_graph(first, LARGEST_FORM).map_err(PairRefusal::First)?;
+    read_graph(second, LARGEST_FORM).map_err(PairRefusal::Second)?;
+    Ok(())
 }
 
-// An answer for each two graphs. If the number of graphs is odd, the second graph that is missing is the empty row.
-pub fn answers(heap: Global, graphs: &[&[u64]]) -> Result<Vec<Answer>, AllocError>
-    ensures { IfOk result (λ v. map verdict_of v.items ≡ in_twos (held graphs.now)) }
+// An answer for each two graphs.
+pub fn answers(heap: Global, graphs: &[&[u64]]) -> Result<Vec<Answer<PairRefusal>>, AllocError>
+    ensures { IfOk result (λ v. map (λ a. verdict_of a.0) v.items ≡ in_twos (held graphs.now)) }
 {
-    let mut answers = Vec::new(heap);
-    for two in graphs.chunks(2) {
-        let second = if two.len() == 2 { two[1] } else { &[] };
-        answers.push(answer_to(two[0], second))?;
-    }
-    Ok(answers)
+    graphs.chunks(2).map(answer_to_two).collect(heap)
+}
+
+// If the number of graphs is odd, the second graph that is missing is the empty row.
+fn answer_to_two(two: &[&[u64]]) -> Answer<PairRefusal>
+    requires { 0 < length two.now }
+    ensures { verdict_of result.0 ≡ of_two (held two.now) }
+{
+    Answer(answer_to(two[0], two.get(1).copied().unwrap_or(&[])))
 }

@@ -1,24 +1,19 @@
-use Rattle.std.proofs.Common.{vec_items, ap, inl, inr, arith, Bor}
-use Rattle.std.specs.Slice.Iter.{chunks_rest, chunks_size}
+use Rattle.std.proofs.Common.{◌≡◌, rules, tests, arith, Bor}
+use Rattle.std.specs.Slice.Iter.{chunks_rest, chunks_size, chunks_steps}
+use Rattle.std.proofs.lemmas.Iterator.{YieldsList-from_map_by}
+use Rattle.std.proofs.lemmas.Iterator.Consumers.{map_from_collect, YieldsList-at}
+use Rattle.std.proofs.lemmas.Iterator.Splits.{YieldsList-from_shown_while}
+use Rattle.std.proofs.lemmas.List.{map-id}
 use Rattle.theory.specs.Row.{Row}
-use Rattle.alike.proofs.Twos.{in_twos_more, so_far_more, so_far_all}
+use Rattle.alike.specs.Answer.{verdict_of, of_two, in_twos, held}
+use Rattle.alike.proofs.Twos.{in_twos_more, in_twos_none}
 use Rattle.alike.proofs.answer.answers.Goals as goal
-use Rattle.alike.proofs.answer.answers.Goals.{then-two-eq2, else-two-eq2}
-
-pub loop-two-preserved : goal.loop-two-preserved
-loop-two-preserved c =
-    let (size, so_far) = c.loop-two.invariant in
-    let (same_size, (cut, long, some)) = c.in-Some.ensures.steps in
-    let more = vec_items c.push.new.self in
-    let left = chunks_rest c.loop-two.two-iterator in
-    let rest = chunks_rest c.next.new.self in
-    let step = in_twos_more left c.in-Some.two.now rest (chunks_size c.loop-two.two-iterator) _ c.if-two-eq2.second.now cut long size some (elim c.if-two-eq2.branch [
-      | then-two-eq2 w ↦ inl (w.if-two-eq2.true, ap (λ (r : Bor Row). r.now) w.second-is)
-      | else-two-eq2 w ↦ inr (w.if-two-eq2.false, ap (λ (r : Bor Row). r.now) w.second-is)
-    ]) in (
-      omega (arith, same_size),
-      so_far_more _ more c.answer_to.result _ _ left rest so_far step c.answer_to.ensures c.in_ok-push.ensures.items,
-    )
 
 pub returns : goal.returns
-returns c = so_far_all _ _ _ c.loop-two.invariant.1 c.in-None.ensures.steps.1.0
+returns c =
+    let left = YieldsList-from_shown_while (chunks_steps {A = Bor Row}) (λ x. of_two (held x.now)) (λ s. in_twos (held (chunks_rest s))) (λ s. chunks_size s ≡ 2)
+    (λ s t p e. in_twos_none (chunks_rest s) e.1.0)
+    (λ s x t p e. (omega (arith, p, e.0), in_twos_more _ _ _ _ e.1.0 e.1.1 p e.1.2)) c.chunks.result (omega arith) in
+    let answered = YieldsList-from_map_by _ (λ a. verdict_of a.0) (λ y. y) (YieldsList-at c.map.ensures.source left) c.map.ensures.closure
+    (λ x r q k. search (rules, tests)) in
+    rw (← map-id (in_twos (held c.args.graphs.now)), ← c.chunks.ensures.rest) (map_from_collect _ c.collect.ensures.ran answered)
