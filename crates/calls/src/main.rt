@@ -2,30 +2,26 @@
 // graph, in decimal. The answer is a line.
 #![tactic(auto)]
 
-use anyhow::anyhow;
+use anyhow::Context;
+use graph::answer::Answer;
 use graph::simple::reading::read_graph;
 use std::io::{BufRead, BufReader, BufWriter, Write};
 
 fn main(rt: HostRuntime) -> anyhow::Result<()> {
-    run(&rt)
-}
-
-fn run(rt: &HostRuntime) -> anyhow::Result<()> {
     let heap = rt.alloc();
     let mut out = BufWriter::new(heap, rt.stdout())?;
     for line in BufReader::new(heap, rt.stdin())?.lines(heap) {
         let line = line?;
         let mut numbers: Vec<u64> = Vec::new(heap);
         for word in line.split(' ') {
-            numbers.push(word.parse::<u64>()?)?;
+            numbers.push(word.parse()?)?;
         }
-        let Some((room, graph)) = numbers.as_slice().split_first() else {
-            return Err(anyhow!("a line without a room"));
-        };
-        match read_graph(graph, *room as usize) {
-            Ok(_) => writeln!(out, "accepted")?,
-            Err(refusal) => writeln!(out, "{refusal}")?,
-        }
+        let (room, graph) = numbers
+            .as_slice()
+            .split_first()
+            .context("a line without a room")?;
+        let answer = Answer(read_graph(graph, usize::try_from(*room)?).map(|_| ()));
+        writeln!(out, "{answer}")?;
     }
     out.flush()?;
     Ok(())
