@@ -14,15 +14,16 @@ pub fn graph() -> [u64; 1252] {
     let mut graph = [0; 1252];
     graph[0] = 32;
     graph[1] = 250;
-    let mut state = 7u64;
-    for triple in 0..250usize {
-        let start = 2 + 5 * triple;
+    let mut state = 7;
+    for triple in graph[2..].chunks_exact_mut(5) {
         state = next(state);
-        graph[start] = 1;
-        graph[start + 1] = (state >> 33) % 32;
-        graph[start + 2] = (state >> 40) % 4;
-        graph[start + 3] = 1;
-        graph[start + 4] = (state >> 48) % 32;
+        triple.copy_from_slice(&[
+            1,
+            (state >> 33) % 32,
+            (state >> 40) % 4,
+            1,
+            (state >> 48) % 32,
+        ]);
     }
     graph
 }
