@@ -12,9 +12,9 @@ fn opening_example(rt: HostRuntime) -> Result<(), Fail> {
             triples: 1,
         })
     );
-    let Err(refusal) = encoded::check(&[2, 1, 1, 2, 7, 0, 5]) else {
-        return Err(Fail::new("not refused"));
-    };
+    let refusal = encoded::check(&[2, 1, 1, 2, 7, 0, 5])
+        .err()
+        .ok_or("not refused")?;
     assert_eq!(rt; refusal.to_string(rt.alloc())?.as_str(), "refused 2 at 0");
     Ok(())
 }

@@ -11,9 +11,7 @@ const GRAPH: [u64; 22] = [
 
 #[test]
 fn each_triple_once_and_in_order(rt: HostRuntime) -> Result<(), Fail> {
-    let Ok(graph) = read_graph(&GRAPH, 16) else {
-        return Err(Fail::new("refused"));
-    };
+    let graph = read_graph(&GRAPH, 16)?;
     assert_eq!(rt; graph.blanks(), 2);
     assert_eq!(rt; graph.triples(), 3);
     assert_eq!(rt;
@@ -37,10 +35,7 @@ fn each_triple_once_and_in_order(rt: HostRuntime) -> Result<(), Fail> {
 }
 
 fn refusal(graph: &[u64], room: usize) -> Option<Refusal> {
-    match read_graph(graph, room) {
-        Ok(_) => None,
-        Err(refusal) => Some(refusal),
-    }
+    read_graph(graph, room).err()
 }
 
 #[test]
@@ -59,8 +54,8 @@ fn too_little_room(rt: HostRuntime) {
 // So many triples, whose subjects are the names from 0 to the last one, and then that one again.
 fn many(rt: HostRuntime, written: u64, last: u64) -> Result<Vec<u64>, Fail> {
     let mut graph = vec![in rt.alloc(); 0, written]?;
-    for i in 0..written {
-        graph.extend_from_slice(&[0, i.min(last), 7, 0, 7])?;
+    for name in 0..written {
+        graph.extend_from_slice(&[0, name.min(last), 7, 0, 7])?;
     }
     Ok(graph)
 }

@@ -7,19 +7,15 @@ use std::test::Fail;
 
 // The stable colours of an encoded graph, from blank nodes that all have one colour.
 fn stable_colours(graph: &[u64]) -> Result<[u64; 32], Fail> {
-    let Ok(graph) = read_graph(graph, LARGEST_FORM) else {
-        return Err(Fail::new("refused"));
-    };
+    let graph = read_graph(graph, LARGEST_FORM)?;
     Ok(stable(&Incidences::find(&graph), Colouring::uniform()).of)
 }
 
 // These colours, and 0 past them, where nothing was touched.
 fn colours(first: &[u64]) -> [u64; 32] {
     let mut all = [0; 32];
-    for (k, colour) in first.iter().enumerate() {
-        if k < 32 {
-            all[k] = *colour;
-        }
+    for (place, colour) in all.iter_mut().zip(first) {
+        *place = *colour;
     }
     all
 }
@@ -83,12 +79,10 @@ fn itself_is_not_another(rt: HostRuntime) -> Result<(), Fail> {
 
 #[test]
 fn opening_example_of_refinement(rt: HostRuntime) -> Result<(), Fail> {
-    let Ok(graph) = read_graph(
+    let graph = read_graph(
         &[4, 3, 1, 0, 3, 1, 1, 1, 1, 3, 1, 2, 1, 2, 3, 1, 3],
         LARGEST_FORM,
-    ) else {
-        return Err(Fail::new("refused"));
-    };
+    )?;
     let seen = Incidences::find(&graph);
     assert_eq!(rt; seen.blanks(), 4);
     let mut start = Colouring::uniform();
