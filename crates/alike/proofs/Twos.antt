@@ -1,7 +1,8 @@
 -- Two graphs more of the graphs that are taken in twos.
 use Rattle.std.proofs.Common.{◌≡◌, ℕ, ◌<◌, min, List, [], ◌∷◌, ◌++◌, length, refl, ap, arith, Bor}
 use Rattle.theory.specs.Row.{Row}
-use Rattle.alike.specs.Answer.{of_two, in_twos, held}
+use Rattle.rows.specs.Written.{held}
+use Rattle.alike.specs.Answer.{of_two, in_twos}
 
 -- `two` are the first two of the graphs that are left, or the last one alone
 pub in_twos_more : (left two rest : List (Bor Row)) (size : ℕ) → left ≡ two ++ rest → length two ≡ min size (length left) →

@@ -6,8 +6,7 @@
 --   told r              the verdict that a refusal is
 --   verdict_of a        the verdict that an answer is: both are accepted, or what its refusal tells
 --   line v              the verdict in a line of text
-use Rattle.std.specs.Prelude.{ℕ, List, [], ◌∷◌, ◌++◌, map, Ok, Err, Result, codes, slice_index_or}
-use Rattle.std.specs.Borrow.{Bor}
+use Rattle.std.specs.Prelude.{ℕ, List, [], ◌∷◌, ◌++◌, Ok, Err, Result, codes, slice_index_or}
 use Rattle.theory.specs.Row.{Row}
 use Rattle.theory.specs.Refusal.{refused, told_of}
 use Rattle.theory.specs.Encoding.{graph_verdict, largest_form}
@@ -45,7 +44,3 @@ abbrev pub line : PairVerdict → List ℕ
 line both_accepted = codes "accepted"
 line (first_refused number place) = codes "first " ++ graph.line (refused number place)
 line (second_refused number place) = codes "second " ++ graph.line (refused number place)
-
--- what lent rows hold
-abbrev pub held : List (Bor Row) → List Row
-held rows = map (λ r. r.now) rows

@@ -1,5 +1,6 @@
 ghost use Rattle.std.specs.Prelude.{◌≡◌, ◌<◌, map, length, IfOk, Some};
-ghost use Rattle.alike.specs.Answer.{told, verdict_of, pair_verdict, of_two, in_twos, line, held};
+ghost use Rattle.rows.specs.Written.{held};
+ghost use Rattle.alike.specs.Answer.{told, verdict_of, pair_verdict, of_two, in_twos, line};
 
 use graph::answer::Answer;
 use graph::refusal::Refusal;

@@ -3,7 +3,8 @@ use Rattle.std.proofs.Math.ListN.{get_or-map}
 use Rattle.std.specs.Prelude.{Option}
 use Rattle.std.specs.Option.{unwrap_or}
 use Rattle.theory.specs.Row.{Row}
-use Rattle.alike.specs.Answer.{PairVerdict, pair_verdict, of_two, held}
+use Rattle.rows.specs.Written.{held}
+use Rattle.alike.specs.Answer.{PairVerdict, pair_verdict, of_two}
 use Rattle.alike.proofs.answer.answer_to_two.Goals as goal
 
 -- the second row, or the empty row where there is none

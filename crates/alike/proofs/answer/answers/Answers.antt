@@ -5,7 +5,8 @@ use Rattle.std.proofs.lemmas.Iterator.Consumers.{map_from_collect, YieldsList-at
 use Rattle.std.proofs.lemmas.Iterator.Splits.{YieldsList-from_shown_while}
 use Rattle.std.proofs.lemmas.List.{map-id}
 use Rattle.theory.specs.Row.{Row}
-use Rattle.alike.specs.Answer.{verdict_of, of_two, in_twos, held}
+use Rattle.rows.specs.Written.{held}
+use Rattle.alike.specs.Answer.{verdict_of, of_two, in_twos}
 use Rattle.alike.proofs.Twos.{in_twos_more, in_twos_none}
 use Rattle.alike.proofs.answer.answers.Goals as goal
 
