@@ -31,6 +31,15 @@ fn each_triple_once_and_in_order(rt: HostRuntime) -> Result<(), Fail> {
         })
     );
     assert_eq!(rt; graph.triple(3), None);
+    assert_eq!(rt; graph.as_slice().len(), 3);
+    assert_eq!(rt;
+        graph.as_slice()[1],
+        Triple {
+            subject: Term::Blank(1),
+            predicate: 1,
+            object: Term::Named(5),
+        }
+    );
     Ok(())
 }
 
