@@ -63,8 +63,7 @@ fn read_whole<R: Read + Drop>(rt: &HostRuntime, mut reader: R) -> io::Result<Sou
 fn named<T>(rt: &HostRuntime, name: &str, read: io::Result<T>) -> io::Result<T>
     ensures { result ≡ read }
 {
-    if let Err(e) = &read {
+    read.inspect_err(|e| {
         let _ = eprintln!(rt; "cannot read {name}: {e}");
-    }
-    read
+    })
 }

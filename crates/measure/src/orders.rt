@@ -36,7 +36,7 @@ pub fn falling() -> [u64; NUMBERS] {
     rows_of(&ranks)
 }
 
-// The same rows in random order, the same one each time: each place is exchanged with one that a generator gives.
+// The same rows in random order, the same one each time: each place is exchanged with one that a generator gives, by `swap`, which takes places.
 pub fn shuffled() -> [u64; NUMBERS] {
     let mut ranks = all_ranks();
     let mut state = 1;
