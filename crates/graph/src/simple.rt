@@ -12,9 +12,6 @@ pub const MOST_DIFFERENT: usize = 256;
 // The most numbers that a form has: one, and a row for each different triple.
 pub const LARGEST_FORM: usize = 1 + WIDTH * MOST_DIFFERENT;
 
-// The most numbers that the rows of different triples have.
-const NUMBERS: usize = WIDTH * MOST_DIFFERENT;
-
 // A node of the index for each of them, and one more.
 const NODES: usize = MOST_DIFFERENT + 1;
 
