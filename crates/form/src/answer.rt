@@ -8,8 +8,8 @@ use graph::simple::LARGEST_FORM;
 use graph::simple::reading::read_graph;
 use std::alloc::{AllocError, Global};
 
-// The line that is printed for a graph. It is made here, and not by `main`, so that all of its text is proved.
-pub fn line_for(heap: Global, graph: &[u64]) -> Result<String, AllocError>
+// The line that is printed for a graph. Its text is proved here; what `main` adds is the end of the line.
+pub(crate) fn line_for(heap: Global, graph: &[u64]) -> Result<String, AllocError>
     ensures { IfOk result (λ s. string_bytes s ≡ line (graph_verdict graph.now largest_form)) }
 {
     let answer = Answer(answer_to(graph));

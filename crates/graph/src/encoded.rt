@@ -14,8 +14,8 @@ const MOST_WRITTEN: u64 = 65536;
 // How many numbers a triple is written with.
 pub const WIDTH: usize = 5;
 
-// The counts that an encoded graph begins with. Anyone may write any two counts here, so that they are those of some numbers is said with these
-// (`Headed`).
+// The counts that an encoded graph begins with. The fields are open, so any two counts may stand here: that they are those of some numbers is said
+// where a header is answered (`Headed`).
 #[derive(Clone, Copy, PartialEq, Eq, Debug)]
 pub struct Header {
     pub blanks: u64,

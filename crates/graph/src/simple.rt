@@ -15,8 +15,8 @@ pub const LARGEST_FORM: usize = 1 + WIDTH * MOST_DIFFERENT;
 // A node of the index for each of them, and one more.
 const NODES: usize = MOST_DIFFERENT + 1;
 
-// A graph as it is worked with: how many blank nodes, and its different triples in order, which are the first of an array. A vector would
-// want an allocator, and could not be copied.
+// A graph as it is worked with: how many blank nodes, and its different triples in order, which are the first of an array: a list that
+// knows its own length could not be copied.
 #[derive(Clone, Copy)]
 pub struct SimpleGraph {
     blanks: usize,

@@ -39,7 +39,7 @@ fn main(rt: HostRuntime) -> anyhow::Result<()> {
     Ok(())
 }
 
-// Not inlined where it is timed: only the count of blank nodes is told there, and the rows are to be found all the same.
+// Not inlined where it is timed: only the count of blank nodes is told there, and what they see is to be found all the same.
 #[inline(never)]
 fn find(graph: &SimpleGraph) -> Incidences<'_> {
     Incidences::find(graph)

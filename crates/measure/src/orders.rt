@@ -1,10 +1,9 @@
 use crate::random::next;
+use graph::encoded::WIDTH;
 use rows::row_index::RowIndex;
 use std::array;
 
 const ROWS: usize = 256;
-
-const WIDTH: usize = 5;
 
 const NUMBERS: usize = WIDTH * ROWS;
 

@@ -60,7 +60,7 @@ fn too_little_room(rt: HostRuntime) {
     );
 }
 
-// So many triples, whose subjects are the names from 0 to the last one, and then that one again.
+// So many triples, whose subjects are the names from 0 to the last one, and then that one again. The loop counts names, which are numbers.
 fn many(rt: HostRuntime, written: u64, last: u64) -> Result<Vec<u64>, Fail> {
     let mut graph = vec![in rt.alloc(); 0, written]?;
     for name in 0..written {
