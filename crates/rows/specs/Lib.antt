@@ -1,4 +1,3 @@
-pub mod RowOrder
 pub mod Node
 pub mod RowTree
 pub mod RowTreeSteps
