@@ -4,7 +4,7 @@
 //     let mut index = RowIndex::<3>::new(&rows);            // room for two different rows
 //     index.put(0, 2) && index.put(2, 4) && index.put(4, 6) // true: 3 1 is put in twice
 //     index.write_all(&mut out)                             // 6 numbers: 2 9 3 1 3 1
-//     index.write_once(&mut out)                            // 4 numbers: 2 9 3 1
+//     index.in_order()                                      // the rows 2 9 and 3 1
 #![tactic(auto)]
 
 mod copy;

@@ -8,8 +8,10 @@ fn opening_example(rt: HostRuntime) {
     let mut out = [0; 6];
     assert_eq!(rt; index.write_all(&mut out), 6);
     assert_eq!(rt; out, [2, 9, 3, 1, 3, 1]);
-    assert_eq!(rt; index.write_once(&mut out), 4);
-    assert_eq!(rt; out, [2, 9, 3, 1, 3, 1], "what lies behind stays");
+    assert_eq!(rt;
+        index.in_order().as_slice(),
+        [&rows[2..4], &rows[0..2]].as_slice()
+    );
 }
 
 // Three rows of two numbers, the first and the last the same; one of three numbers that the second row begins; two numbers more.
@@ -23,9 +25,6 @@ fn rows_of_any_width(rt: HostRuntime) {
     let mut all = [0; 12];
     assert_eq!(rt; index.write_all(&mut all), 9);
     assert_eq!(rt; all, [2, 9, 2, 9, 0, 3, 1, 3, 1, 0, 0, 0]);
-    let mut once = [0; 8];
-    assert_eq!(rt; index.write_once(&mut once), 7);
-    assert_eq!(rt; once, [2, 9, 2, 9, 0, 3, 1, 0]);
     let rows = index.in_order();
     assert_eq!(rt; rows.len(), 3);
     assert_eq!(rt;
