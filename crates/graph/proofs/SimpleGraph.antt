@@ -1,11 +1,12 @@
 -- A simple graph is well formed, and its triples are different: their rows rise, so that no two of them are the same.
-use Rattle.std.proofs.Common.{◌≡◌, ℕ, ◌<◌, ◌≤◌, true, List, [], ◌∷◌, map, length, take, get_or, Option, Some, None, MatchOption, sym, refl, ap, ◌∙◌, subst, arith, length-take}
+use Rattle.std.proofs.Common.{◌≡◌, ℕ, ◌<◌, ◌≤◌, true, List, [], ◌∷◌, map, length, take, get_or, sym, refl, ap, ◌∙◌, subst, arith, length-take}
 use Rattle.std.proofs.lemmas.List.{length-map}
 use Rattle.std.proofs.lemmas.List.Elements.{All-map, recursion_from_All}
 use Rattle.theory.specs.Row.{Row, same_row}
 use Rattle.theory.specs.Triple.{Triple, triple_row, triple_of, same_triple, Within}
 use Rattle.theory.specs.Lists.{member}
 use Rattle.theory.specs.Graph.{different, WellFormed}
+use Rattle.theory.specs.Encoding.{most_different}
 use Rattle.theory.proofs.Row.{row_decider}
 use Rattle.theory.proofs.Lists.{Apart, all_member, apart_map, distinct_apart}
 use Rattle.theory.proofs.Multiset.{Rising, rising_sorted_set, rising_apart}
@@ -13,7 +14,6 @@ use Rattle.theory.proofs.ReadBack.{IsTripleRow}
 use Rattle.theory.proofs.Triple.{triple_decider, triple_of_row, fits_within}
 use Rattle.graph.specs.Triple.{triple_is}
 use Rattle.graph.specs.SimpleGraph.{graph_of}
-use Rattle.graph.specs.declared.triple.Triple as code
 use Rattle.graph.specs.declared.simple.SimpleGraph.{SimpleGraph}
 
 -- triples are read off their rows
@@ -25,18 +25,11 @@ module _ (s : SimpleGraph) where
   abbrev triples : List Triple
   triples = (graph_of s).triples
 
-  pub few_triples : length triples ≤ 256
+  pub few_triples : length triples ≤ most_different
   few_triples = omega (arith, length-map (take s.count s.triples) triple_is, length-take s.count s.triples, s.few)
 
   triple_within : (i : ℕ) (d : Triple) → i < length triples → Within s.blanks (get_or triples i d)
   triple_within i d h = let t = get_or triples i d in subst (Within s.blanks) (triple_of_row t) (fits_within s.blanks (triple_row t) (s.fitting i d h))
-
-  -- what is found at a place is one of its triples
-  pub found_within : (place : ℕ) (found : Option code.Triple) →
-      MatchOption found (length triples ≤ place) (λ t. (place < length triples) × (triple_is t ≡ get_or triples place (triple_is t))) →
-      MatchOption found (length triples ≤ place) (λ t. (place < length triples) × (triple_is t ≡ get_or triples place (triple_is t)) × Within s.blanks (triple_is t))
-  found_within place None h = h
-  found_within place (Some t) h = (h.0, h.1, subst (Within s.blanks) (sym h.1) (triple_within place (triple_is t) h.0))
 
   pub well_formed : WellFormed (graph_of s)
   well_formed t h = all_member same_triple triple_decider (Within s.blanks) triples t (recursion_from_All (Within s.blanks) triples triple_within) h

@@ -7,7 +7,7 @@ ghost use Rattle.graph.specs.Verdicts.{number_of, verdict_of, Caused, Headed};
 use crate::refusal::Refusal;
 use crate::triple::Triple;
 
-const MOST_BLANK_NODES: u64 = 32;
+pub const MOST_BLANK_NODES: usize = 32;
 
 const MOST_WRITTEN: u64 = 65536;
 
@@ -46,7 +46,7 @@ pub fn read_header(graph: &[u64]) -> Result<Header, Refusal>
 {
     whole_length(graph).ok_or(Refusal::CutShort(graph.len() as u64))?;
     let blanks = graph[0];
-    if blanks > MOST_BLANK_NODES {
+    if blanks > MOST_BLANK_NODES as u64 {
         return Err(Refusal::TooManyBlankNodes(blanks));
     }
     let triples = graph[1];

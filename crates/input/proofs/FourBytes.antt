@@ -1,5 +1,5 @@
 -- The numbers in bytes, by the fours that the bytes are cut into.
-use Rattle.std.proofs.Common.{◌≡◌, ℕ, zero, suc, ◌+◌, ◌*◌, ◌/◌, ◌<◌, ◌≤◌, List, [], ◌∷◌, map, length, refl, ap, arith}
+use Rattle.std.proofs.Common.{◌≡◌, ℕ, zero, suc, ◌+◌, ◌*◌, ◌/◌, ◌<◌, ◌≤◌, List, [], ◌∷◌, map, length, sym, refl, ap, arith}
 use Rattle.std.specs.Simd.{first_chunks}
 use Rattle.input.specs.Bytes.{number, numbers_in}
 
@@ -16,5 +16,5 @@ by_fours (suc k) (a ∷ b ∷ []) p q = absurd (omega arith)
 by_fours (suc k) (a ∷ []) p q = absurd (omega arith)
 by_fours (suc k) [] p q = absurd (omega arith)
 
-pub all_fours : (bytes : List ℕ) → map number (first_chunks 4 (length bytes / 4) bytes) ≡ numbers_in bytes
-all_fours bytes = by_fours (length bytes / 4) bytes (omega arith) (omega arith)
+pub numbers_are : (bytes : List ℕ) → numbers_in bytes ≡ map number (first_chunks 4 (length bytes / 4) bytes)
+numbers_are bytes = sym (by_fours (length bytes / 4) bytes (omega arith) (omega arith))

@@ -3,6 +3,7 @@ ghost use Rattle.input.specs.Bytes.{number, numbers_in};
 
 use std::alloc::{AllocError, Global};
 
+#[tactic(auto, using(crate::proofs::FourBytes::numbers_are))]
 pub fn numbers(heap: Global, bytes: &[u8]) -> Result<Vec<u64>, AllocError>
     ensures { IfOk result (λ v. v.items ≡ numbers_in bytes.now) }
 {

@@ -13,32 +13,26 @@ const GRAPH: [u64; 22] = [
 fn each_triple_once_and_in_order(rt: HostRuntime) -> Result<(), Fail> {
     let graph = read_graph(&GRAPH, 16)?;
     assert_eq!(rt; graph.blanks(), 2);
-    assert_eq!(rt; graph.triples(), 3);
     assert_eq!(rt;
-        graph.triple(0),
-        Some(Triple {
-            subject: Term::Blank(0),
-            predicate: 1,
-            object: Term::Named(5),
-        })
-    );
-    assert_eq!(rt;
-        graph.triple(2),
-        Some(Triple {
-            subject: Term::Blank(1),
-            predicate: 2,
-            object: Term::Blank(0),
-        })
-    );
-    assert_eq!(rt; graph.triple(3), None);
-    assert_eq!(rt; graph.as_slice().len(), 3);
-    assert_eq!(rt;
-        graph.as_slice()[1],
-        Triple {
-            subject: Term::Blank(1),
-            predicate: 1,
-            object: Term::Named(5),
-        }
+        graph.triples(),
+        [
+            Triple {
+                subject: Term::Blank(0),
+                predicate: 1,
+                object: Term::Named(5),
+            },
+            Triple {
+                subject: Term::Blank(1),
+                predicate: 1,
+                object: Term::Named(5),
+            },
+            Triple {
+                subject: Term::Blank(1),
+                predicate: 2,
+                object: Term::Blank(0),
+            },
+        ]
+        .as_slice()
     );
     Ok(())
 }
