@@ -2,6 +2,7 @@
 #![tactic(auto)]
 
 use crate::orders::put_in_order;
+use crate::timing::Timing;
 use anyhow::Error;
 use graph::simple::reading::read_graph;
 use graph::simple::{LARGEST_FORM, SimpleGraph};
@@ -9,15 +10,12 @@ use refinement::colouring::Colouring;
 use refinement::incidences::Incidences;
 use stability::stable;
 use std::io;
-use std::time::Instant;
 
 mod orders;
 mod random;
+mod timing;
 
-// Each piece of work is done in batches of so many turns. The fastest batch counts: whatever else the machine does only makes one slower.
-const TURNS: u64 = 25;
-
-const BATCHES: u64 = 20;
+const BATCHES: u64 = 100;
 
 fn main(rt: HostRuntime) -> anyhow::Result<()> {
     time_orders(&rt)?;
@@ -51,42 +49,36 @@ fn greatest_colour(colouring: Colouring) -> usize {
 }
 
 // Rows put into an index in order take at most three times what they take in random order: a tree that is not kept shallow would take some
-// twenty times as long.
+// twenty times as long. Batches of the three orders take turns, so that what slows the machine for a while slows no order alone.
 fn time_orders(rt: &HostRuntime) -> io::Result<()> {
     let rising = orders::rising();
     let falling = orders::falling();
     let shuffled = orders::shuffled();
-    let up = time(rt, "rows put in from the least on", || {
-        put_in_order(&rising)
-    })?;
-    let down = time(rt, "rows put in from the greatest on", || {
-        put_in_order(&falling)
-    })?;
-    let random = time(rt, "rows put in in random order", || {
-        put_in_order(&shuffled)
-    })?;
-    if up.max(down) / 3 <= random {
+    let mut up = Timing::new();
+    let mut down = Timing::new();
+    let mut random = Timing::new();
+    for _ in 0..BATCHES {
+        up.batch(rt, || put_in_order(&rising))?;
+        down.batch(rt, || put_in_order(&falling))?;
+        random.batch(rt, || put_in_order(&shuffled))?;
+    }
+    up.tell(rt, "rows put in from the least on")?;
+    down.tell(rt, "rows put in from the greatest on")?;
+    random.tell(rt, "rows put in in random order")?;
+    if up.best.max(down.best) / 3 <= random.best {
         println!(rt; "in order takes at most three times what random order takes")
     } else {
         println!(rt; "in order takes more than three times what random order takes")
     }
 }
 
-// Does the work many times, tells its answer, and answers how many nanoseconds a turn took. The answer is told so that no work can be left
-// out.
-fn time<F: Fn() -> usize>(rt: &HostRuntime, what: &str, work: F) -> io::Result<u128>
+// Does the work in many batches, and tells what came of it.
+fn time<F: Fn() -> usize>(rt: &HostRuntime, what: &str, work: F) -> io::Result<()>
     requires { F.IsAlwaysCallable work }
 {
-    let mut answer = 0;
-    let mut best = u128::MAX;
+    let mut timing = Timing::new();
     for _ in 0..BATCHES {
-        let start = Instant::now(rt)?;
-        for _ in 0..TURNS {
-            answer = work();
-        }
-        best = best.min(start.elapsed(rt)?.as_nanos() / u128::from(TURNS));
+        timing.batch(rt, || work())?;
     }
-    eprintln!(rt; "{best} ns: {what}")?;
-    println!(rt; "{answer} {what}")?;
-    Ok(best)
+    timing.tell(rt, what)
 }
