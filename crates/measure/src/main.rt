@@ -7,7 +7,7 @@ use anyhow::Error;
 use graph::simple::reading::read_graph;
 use graph::simple::{LARGEST_FORM, SimpleGraph};
 use refinement::colouring::Colouring;
-use refinement::incidences::Incidences;
+use refinement::refiner::Refiner;
 use stability::stable;
 use std::io;
 
@@ -25,22 +25,16 @@ fn main(rt: HostRuntime) -> anyhow::Result<()> {
     })?;
     let graph = read_graph(&encoded, LARGEST_FORM).map_err(Error::msg)?;
     time(&rt, "blank nodes whose incidences are found", || {
-        find(&graph).blanks()
+        Refiner::new(&graph).blanks()
     })?;
-    let seen = find(&graph);
+    let mut refiner = Refiner::new(&graph);
     time(&rt, "is the greatest colour after one round", || {
-        greatest_colour(seen.refine(Colouring::uniform()))
+        greatest_colour(refiner.refine(Colouring::uniform()))
     })?;
     time(&rt, "is the greatest stable colour", || {
-        greatest_colour(stable(&seen, Colouring::uniform()))
+        greatest_colour(stable(&mut refiner, Colouring::uniform()))
     })?;
     Ok(())
-}
-
-// Not inlined where it is timed: only the count of blank nodes is told there, and what they see is to be found all the same.
-#[inline(never)]
-fn find(graph: &SimpleGraph) -> Incidences<'_> {
-    Incidences::find(graph)
 }
 
 // The check proves of this `as`, and of each other one here, that it loses nothing; there is no `From` between usize and u64.
@@ -58,9 +52,9 @@ fn time_orders(rt: &HostRuntime) -> io::Result<()> {
     let mut down = Timing::new();
     let mut random = Timing::new();
     for _ in 0..BATCHES {
-        up.batch(rt, || put_in_order(&rising))?;
-        down.batch(rt, || put_in_order(&falling))?;
-        random.batch(rt, || put_in_order(&shuffled))?;
+        up.batch(rt, &mut || put_in_order(&rising))?;
+        down.batch(rt, &mut || put_in_order(&falling))?;
+        random.batch(rt, &mut || put_in_order(&shuffled))?;
     }
     up.tell(rt, "rows put in from the least on")?;
     down.tell(rt, "rows put in from the greatest on")?;
@@ -73,12 +67,12 @@ fn time_orders(rt: &HostRuntime) -> io::Result<()> {
 }
 
 // Does the work in many batches, and tells what came of it.
-fn time<F: Fn() -> usize>(rt: &HostRuntime, what: &str, work: F) -> io::Result<()>
-    requires { F.IsAlwaysCallable work }
+fn time<F: FnMut() -> usize>(rt: &HostRuntime, what: &str, mut work: F) -> io::Result<()>
+    requires { (f : _) → F.pre f }
 {
     let mut timing = Timing::new();
     for _ in 0..BATCHES {
-        timing.batch(rt, || work())?;
+        timing.batch(rt, &mut work)?;
     }
     timing.tell(rt, what)
 }

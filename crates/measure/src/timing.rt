@@ -21,8 +21,9 @@ impl Timing {
     }
 
     // Does the work in one more batch.
-    pub fn batch<F: Fn() -> usize>(&mut self, rt: &HostRuntime, work: F) -> io::Result<()>
-        requires { F.IsAlwaysCallable work }
+    pub fn batch<F: FnMut() -> usize>(&mut self, rt: &HostRuntime, work: &mut F) -> io::Result<()>
+        requires { F.IsAlwaysCallable work.old }
+        ensures { F.IsAlwaysCallable work.new }
     {
         let start = Instant::now(rt)?;
         for _ in 0..TURNS {

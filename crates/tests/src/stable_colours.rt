@@ -1,14 +1,14 @@
 use graph::simple::LARGEST_FORM;
 use graph::simple::reading::read_graph;
 use refinement::colouring::Colouring;
-use refinement::incidences::Incidences;
+use refinement::refiner::Refiner;
 use stability::stable;
 use std::test::Fail;
 
 // The stable colours of an encoded graph, from blank nodes that all have one colour.
 fn stable_colours(graph: &[u64]) -> Result<[u64; 32], Fail> {
     let graph = read_graph(graph, LARGEST_FORM)?;
-    Ok(stable(&Incidences::find(&graph), Colouring::uniform()).of)
+    Ok(stable(&mut Refiner::new(&graph), Colouring::uniform()).of)
 }
 
 // These colours, and 0 past them, where nothing was touched.
@@ -83,11 +83,11 @@ fn opening_example_of_refinement(rt: HostRuntime) -> Result<(), Fail> {
         &[4, 3, 1, 0, 3, 1, 1, 1, 1, 3, 1, 2, 1, 2, 3, 1, 3],
         LARGEST_FORM,
     )?;
-    let seen = Incidences::find(&graph);
-    assert_eq!(rt; seen.blanks(), 4);
+    let mut refiner = Refiner::new(&graph);
+    assert_eq!(rt; refiner.blanks(), 4);
     let mut start = Colouring::uniform();
     start.of[4] = 9;
-    let refined = seen.refine(start).of;
+    let refined = refiner.refine(start).of;
     assert_eq!(rt;
         [refined[0], refined[1], refined[2], refined[3]],
         [0, 1, 1, 2]
