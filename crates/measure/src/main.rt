@@ -19,19 +19,30 @@ const BATCHES: u64 = 100;
 
 fn main(rt: HostRuntime) -> anyhow::Result<()> {
     time_orders(&rt)?;
-    let encoded = random::graph();
-    time(&rt, "different triples read", || {
-        read_graph(&encoded, LARGEST_FORM).map_or(0, |graph| graph.triples().len())
+    println!(rt; "a graph of 6 blank nodes and 18 triples")?;
+    let mut small = [0; 92];
+    random::write_graph(&mut small, 6);
+    time_steps(&rt, &small)?;
+    println!(rt; "a graph of 32 blank nodes and 250 triples")?;
+    let mut large = [0; 1252];
+    random::write_graph(&mut large, 32);
+    time_steps(&rt, &large)
+}
+
+// What is done on the way to the stable colouring of an encoded graph.
+fn time_steps(rt: &HostRuntime, encoded: &[u64]) -> anyhow::Result<()> {
+    time(rt, "different triples read", || {
+        read_graph(encoded, LARGEST_FORM).map_or(0, |graph| graph.triples().len())
     })?;
-    let graph = read_graph(&encoded, LARGEST_FORM).map_err(Error::msg)?;
-    time(&rt, "blank nodes whose incidences are found", || {
+    let graph = read_graph(encoded, LARGEST_FORM).map_err(Error::msg)?;
+    time(rt, "blank nodes whose incidences are found", || {
         Refiner::new(&graph).blanks()
     })?;
     let mut refiner = Refiner::new(&graph);
-    time(&rt, "is the greatest colour after one round", || {
+    time(rt, "is the greatest colour after one round", || {
         greatest_colour(refiner.refine(Colouring::uniform()))
     })?;
-    time(&rt, "is the greatest stable colour", || {
+    time(rt, "is the greatest stable colour", || {
         greatest_colour(stable(&mut refiner, Colouring::uniform()))
     })?;
     Ok(())

@@ -1,4 +1,4 @@
-ghost use Rattle.std.specs.Prelude.{◌≡◌, ◌+◌, ◌*◌, ◌%◌, ◌^◌};
+ghost use Rattle.std.specs.Prelude.{◌≡◌, ◌+◌, ◌*◌, ◌%◌, ◌^◌, ◌<◌, ◌≤◌, length};
 
 // The next number of a linear congruential generator.
 pub fn next(state: u64) -> u64
@@ -9,21 +9,23 @@ pub fn next(state: u64) -> u64
         .wrapping_add(1442695040888963407)
 }
 
-// A graph, the same one each time: 32 blank nodes, and 250 triples between them with one of four predicates, as a generator gives them.
-pub fn graph() -> [u64; 1252] {
-    let mut graph = [0; 1252];
-    graph[0] = 32;
-    graph[1] = 250;
+// Encodes a graph, the same one each time: as many triples as there is room for, between blank nodes with one of four predicates, as a
+// generator gives them.
+pub fn write_graph(graph: &mut [u64], blanks: u64)
+    requires room { 2 ≤ length graph.old }
+    requires some { 0 < blanks }
+{
+    graph[0] = blanks;
+    graph[1] = (graph.len() as u64 - 2) / 5;
     let mut state = 7;
     for triple in graph[2..].chunks_exact_mut(5) {
         state = next(state);
         triple.copy_from_slice(&[
             1,
-            (state >> 33) % 32,
+            (state >> 33) % blanks,
             (state >> 40) % 4,
             1,
-            (state >> 48) % 32,
+            (state >> 48) % blanks,
         ]);
     }
-    graph
 }
