@@ -1,7 +1,7 @@
 ghost use Rattle.std.specs.Prelude.{◌≡◌, ◌+◌, ◌*◌, ◌<◌, ◌≤◌, length, drop, IfOk, IfErr, MatchOption, MatchResult, not, position};
 ghost use Rattle.theory.specs.Row.{rows_of};
 ghost use Rattle.theory.specs.Triple.{width, triple_fits};
-ghost use Rattle.theory.specs.Encoding.{graph_length, header_verdict, rows_verdict, encoding_verdict};
+ghost use Rattle.theory.specs.Encoding.{most_blanks, graph_length, header_verdict, rows_verdict, encoding_verdict};
 ghost use Rattle.graph.specs.Verdicts.{number_of, verdict_of, Caused, Headed};
 
 use crate::refusal::Refusal;
@@ -73,6 +73,7 @@ pub fn check(graph: &[u64]) -> Result<Header, Refusal>
 
 // The first row that writes no triple down.
 fn first_fault(rows: &[[u64; WIDTH]], blanks: u64) -> Option<usize>
+    requires { blanks ≤ most_blanks }
     ensures { result ≡ position (λ row. not (triple_fits blanks row)) rows.now }
 {
     rows.iter()
