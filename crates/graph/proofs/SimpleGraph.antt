@@ -28,7 +28,7 @@ module _ (s : SimpleGraph) where
   pub few_triples : length triples ≤ most_different
   few_triples = omega (arith, length-map (take s.count s.triples) triple_is, length-take s.count s.triples, s.few)
 
-  triple_within : (i : ℕ) (d : Triple) → i < length triples → Within s.blanks (get_or triples i d)
+  pub triple_within : (i : ℕ) (d : Triple) → i < length triples → Within s.blanks (get_or triples i d)
   triple_within i d h = let t = get_or triples i d in subst (Within s.blanks) (triple_of_row t) (fits_within s.blanks (triple_row t) (s.fitting i d h))
 
   pub well_formed : WellFormed (graph_of s)
