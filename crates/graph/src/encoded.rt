@@ -38,7 +38,7 @@ pub fn whole_length(graph: &[u64]) -> Option<usize>
 
 // The counts, if they are within their bounds. Which cause a refusal tells is a fact about the numbers too, so no type of the answer can carry
 // it, and what hands an answer on says it again (`Caused`).
-pub fn read_header(graph: &[u64]) -> Result<Header, Refusal>
+fn read_header(graph: &[u64]) -> Result<Header, Refusal>
     ensures verdict { verdict_of result ≡ header_verdict graph.now }
     ensures number { IfErr result (λ e. number_of e ≡ 1) }
     ensures cause { Caused graph.now result }

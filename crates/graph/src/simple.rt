@@ -12,9 +12,8 @@ pub const MOST_DIFFERENT: usize = 256;
 // The most numbers that a form has: one, and a row for each different triple.
 pub const LARGEST_FORM: usize = 1 + WIDTH * MOST_DIFFERENT;
 
-// A graph as it is worked with: how many blank nodes, and its different triples in order, which are the first of an array: a list that
-// knows its own length could not be copied.
-#[derive(Clone, Copy)]
+// A graph as it is worked with: how many blank nodes, and its different triples in order, which are the first of an array.
+#[derive(Drop)]
 pub struct SimpleGraph {
     blanks: usize,
     count: usize,

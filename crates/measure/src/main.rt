@@ -1,7 +1,8 @@
-// Takes times. What was done goes to standard output, and is the same on every machine; how long it took goes to standard error.
+// Takes times. What was done goes to standard output, and is the same on every machine, but for the line that compares the orders; how long it
+// took goes to standard error.
 #![tactic(auto)]
 
-use crate::orders::put_in_order;
+use crate::orders::put_all;
 use crate::timing::Timing;
 use anyhow::Error;
 use graph::simple::reading::read_graph;
@@ -59,8 +60,8 @@ fn greatest_colour(colouring: Colouring) -> usize {
     colouring.of.into_iter().max().unwrap_or(0) as usize
 }
 
-// Rows put into an index in order take at most three times what they take in random order: a tree that is not kept shallow would take some
-// twenty times as long. Batches of the three orders take turns, so that what slows the machine for a while slows no order alone.
+// Rows put into an index in order take at most three times what they take in random order: a tree that is not kept shallow would take
+// many times as long (docs/PERFORMANCE.md). Batches of the three orders take turns, so that what slows the machine for a while slows no order alone.
 fn time_orders(rt: &HostRuntime) -> io::Result<()> {
     let rising = orders::rising();
     let falling = orders::falling();
@@ -69,9 +70,9 @@ fn time_orders(rt: &HostRuntime) -> io::Result<()> {
     let mut down = Timing::new();
     let mut random = Timing::new();
     for _ in 0..BATCHES {
-        up.batch(rt, &mut || put_in_order(&rising))?;
-        down.batch(rt, &mut || put_in_order(&falling))?;
-        random.batch(rt, &mut || put_in_order(&shuffled))?;
+        up.batch(rt, &mut || put_all(&rising))?;
+        down.batch(rt, &mut || put_all(&falling))?;
+        random.batch(rt, &mut || put_all(&shuffled))?;
     }
     up.tell(rt, "rows put in from the least on")?;
     down.tell(rt, "rows put in from the greatest on")?;

@@ -47,7 +47,7 @@ pub fn shuffled() -> [u64; NUMBERS] {
 }
 
 // Puts all rows into an index, and says how many are different.
-pub fn put_in_order(numbers: &[u64; NUMBERS]) -> usize {
+pub fn put_all(numbers: &[u64; NUMBERS]) -> usize {
     let mut index = RowIndex::<257>::new(numbers);
     for start in (0..NUMBERS).step_by(WIDTH) {
         index.put(start, start + WIDTH);

@@ -1,5 +1,7 @@
 ghost use Rattle.std.specs.Prelude.{◌≡◌, ◌+◌, ◌*◌, ◌%◌, ◌^◌, ◌<◌, ◌≤◌, length};
 
+use graph::encoded::WIDTH;
+
 // The next number of a linear congruential generator.
 pub fn next(state: u64) -> u64
     ensures { result ≡ (state * 6364136223846793005 + 1442695040888963407) % 2 ^ 64 }
@@ -16,9 +18,9 @@ pub fn write_graph(graph: &mut [u64], blanks: u64)
     requires some { 0 < blanks }
 {
     graph[0] = blanks;
-    graph[1] = (graph.len() as u64 - 2) / 5;
+    graph[1] = ((graph.len() - 2) / WIDTH) as u64;
     let mut state = 7;
-    for triple in graph[2..].chunks_exact_mut(5) {
+    for triple in graph[2..].chunks_exact_mut(WIDTH) {
         state = next(state);
         triple.copy_from_slice(&[
             1,
