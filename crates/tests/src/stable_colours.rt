@@ -28,42 +28,43 @@ fn opening_example(rt: HostRuntime) -> Result<(), Fail> {
 
 #[test]
 fn worked_examples(rt: HostRuntime) -> Result<(), Fail> {
-    assert_eq!(rt;
-        stable_colours(&[2, 3, 1, 0, 1, 0, 5, 1, 0, 2, 1, 1, 1, 1, 1, 0, 5])?,
-        colours(&[0, 1]),
-        "x0 1 5, x0 2 x1, x1 1 5"
-    );
-    assert_eq!(rt;
-        stable_colours(&[
-            2, 4, 1, 0, 1, 0, 5, 1, 1, 2, 1, 0, 1, 1, 1, 0, 5, 1, 1, 1, 0, 5,
-        ])?,
-        colours(&[1, 0]),
-        "the same, numbered the other way round, with a triple repeated"
-    );
-    assert_eq!(rt;
-        stable_colours(&[2, 2, 1, 0, 1, 0, 5, 1, 1, 1, 0, 5])?,
-        colours(&[0, 0]),
-        "two that nothing tells apart"
-    );
-    assert_eq!(rt;
-        stable_colours(&[
-            4, 4, 1, 0, 3, 1, 1, 1, 1, 3, 1, 2, 1, 2, 3, 1, 3, 1, 3, 3, 1, 0,
-        ])?,
-        colours(&[0, 0, 0, 0]),
-        "a ring of four"
-    );
-    assert_eq!(rt;
-        stable_colours(&[
-            4, 4, 1, 0, 3, 1, 1, 1, 1, 3, 1, 0, 1, 2, 3, 1, 3, 1, 3, 3, 1, 2,
-        ])?,
-        colours(&[0, 0, 0, 0]),
-        "two rings of two"
-    );
-    assert_eq!(rt;
-        stable_colours(&[1, 1, 1, 0, 3, 1, 0])?,
-        colours(&[0]),
-        "x0 3 x0"
-    );
+    let examples: [(&[u64], &[u64], &str); 6] = [
+        (
+            &[2, 3, 1, 0, 1, 0, 5, 1, 0, 2, 1, 1, 1, 1, 1, 0, 5],
+            &[0, 1],
+            "x0 1 5, x0 2 x1, x1 1 5",
+        ),
+        (
+            &[
+                2, 4, 1, 0, 1, 0, 5, 1, 1, 2, 1, 0, 1, 1, 1, 0, 5, 1, 1, 1, 0, 5,
+            ],
+            &[1, 0],
+            "the same, numbered the other way round, with a triple repeated",
+        ),
+        (
+            &[2, 2, 1, 0, 1, 0, 5, 1, 1, 1, 0, 5],
+            &[0, 0],
+            "two that nothing tells apart",
+        ),
+        (
+            &[
+                4, 4, 1, 0, 3, 1, 1, 1, 1, 3, 1, 2, 1, 2, 3, 1, 3, 1, 3, 3, 1, 0,
+            ],
+            &[0, 0, 0, 0],
+            "a ring of four",
+        ),
+        (
+            &[
+                4, 4, 1, 0, 3, 1, 1, 1, 1, 3, 1, 0, 1, 2, 3, 1, 3, 1, 3, 3, 1, 2,
+            ],
+            &[0, 0, 0, 0],
+            "two rings of two",
+        ),
+        (&[1, 1, 1, 0, 3, 1, 0], &[0], "x0 3 x0"),
+    ];
+    for (graph, expected, what) in examples {
+        assert_eq!(rt; stable_colours(graph)?, colours(expected), "{what}");
+    }
     Ok(())
 }
 
