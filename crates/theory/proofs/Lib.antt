@@ -4,6 +4,7 @@ pub mod Lists
 pub mod Folds
 pub mod Multiset
 pub mod Sorting
+pub mod FirstLeast
 pub mod Round
 pub mod ColourCount
 pub mod Numbering

@@ -171,6 +171,12 @@ module _ {X : Type 0} (same : X → X → Bool) (d : Decider same) where
       go true e ih = sym (d.sound x y e)
       go false e ih = ih (cc)
 
+  pub index_of_append : (x : X) (l m : List X) → index_of same x (l ++ m) ≡ cond (member same x l) (index_of same x l) (length l + index_of same x m)
+  unfolding member index_of
+  index_of_append x [] m = omega arith
+  index_of_append x (y ∷ ys) m =
+      let ih = index_of_append x ys m in let t = cases_Bool (same x y) in let u = cases_Bool (member same x ys) in grind arith
+
   -- what a test keeps
   pub member_kept : (p : X → Bool) (x : X) (l : List X) → member same x (filter p l) ≡ cond (member same x l) (p x) false
   unfolding member
