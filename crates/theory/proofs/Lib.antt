@@ -13,6 +13,7 @@ pub mod SearchTree
 pub mod TreesAgree
 pub mod Triple
 pub mod Refinement
+pub mod Below
 pub mod CanonicalForm
 pub mod Isomorphism
 pub mod ReadBack
