@@ -16,7 +16,9 @@ pub mod Refinement
 pub mod Below
 pub mod CanonicalForm
 pub mod Isomorphism
+pub mod Labelling
 pub mod ReadBack
+pub mod Certificate
 pub mod Simple
 pub mod Written
 pub mod Turn
