@@ -25,6 +25,8 @@ pub mod Turn
 pub mod Automorphism
 pub mod Refusal
 pub mod Encoding
+pub mod FormVerdict
+pub mod ReadVerdict
 pub mod Meanings
 pub mod Table
 pub mod RefusalTable

@@ -1,11 +1,11 @@
 -- What the rest needs of a triple's shape: rows tell triples apart and write them down, relabelling follows the mapping, and what a blank
 -- node sees of a triple goes along with a one-to-one mapping.
-use Rattle.std.proofs.Common.{◌≡◌, ℕ, zero, suc, ◌<◌, true, ◌∷◌, ◌++◌, length, get_or, sym, refl, ap, ◌∙◌, arith}
-use Rattle.std.proofs.lemmas.Bool.{and_parts, ltb-true}
+use Rattle.std.proofs.Common.{◌≡◌, ℕ, zero, suc, ◌<◌, true, ◌∷◌, ◌++◌, length, ltb, get_or, sym, refl, ap, ◌∙◌, arith}
+use Rattle.std.proofs.lemmas.Bool.{and_parts, and_from, ltb-true, lt-ltb}
 use Rattle.std.proofs.lemmas.Bool.Decides.{nat_tests}
 use Rattle.theory.specs.Row.{Row}
 use Rattle.theory.specs.Colouring.{Colouring, Agree}
-use Rattle.theory.specs.Triple.{Term, named, blank, Triple, width, term_row, triple_row, term_of, triple_of, term_fits, triple_fits, same_triple, relabel_term, relabel, TermWithin, Within, is_blank, seen, incidences}
+use Rattle.theory.specs.Triple.{Term, named, blank, Triple, width, term_row, triple_row, term_of, triple_of, term_fits, name_fits, triple_fits, same_triple, relabel_term, relabel, TermWithin, Within, is_blank, seen, incidences}
 use Rattle.theory.proofs.Row.{same_row_true, same_row_refl}
 use Rattle.theory.proofs.Lists.{Decider}
 
@@ -85,6 +85,26 @@ term_relabel_within n to e (blank k) h = e k h
 pub relabel_within : (n : ℕ) (to : ℕ → ℕ) → ((k : ℕ) → k < n → to k < n) → (t : Triple) → Within n t → Within n (relabel to t)
 unfolding relabel
 relabel_within n to e t h = (term_relabel_within n to e t.subject h.0, term_relabel_within n to e t.object h.1)
+
+-- a triple that fits as a row still does
+pub relabel_fits : (n : ℕ) (f : ℕ → ℕ) → ((k : ℕ) → k < n → f k < n) →
+    (t : Triple) → triple_fits n (triple_row t) ≡ true → triple_fits n (triple_row (relabel f t)) ≡ true
+unfolding relabel relabel_term triple_row term_row
+relabel_fits n f below t h = go t.subject t.predicate t.object h
+  where
+    kept : (k : ℕ) → ltb k n ≡ true → ltb (f k) n ≡ true
+    kept k l = lt-ltb (f k) n (below k (ltb-true k n l))
+
+    go : (s : Term) (p : ℕ) (o : Term) → triple_fits n (term_row s ++ p ∷ term_row o) ≡ true →
+        triple_fits n (term_row (relabel_term f s) ++ p ∷ term_row (relabel_term f o)) ≡ true
+    go (named i) p (named j) h = h
+    go (named i) p (blank j) h =
+        let a = and_parts (name_fits i) _ h in let b = and_parts (name_fits p) (ltb j n) a.1 in
+        and_from (name_fits i) _ a.0 (and_from (name_fits p) _ b.0 (kept j b.1))
+    go (blank i) p (named j) h = let a = and_parts (ltb i n) _ h in and_from (ltb (f i) n) _ (kept i a.0) a.1
+    go (blank i) p (blank j) h =
+        let a = and_parts (ltb i n) _ h in let b = and_parts (name_fits p) (ltb j n) a.1 in
+        and_from (ltb (f i) n) _ (kept i a.0) (and_from (name_fits p) _ b.0 (kept j b.1))
 
 -- what is seen from a node goes with it
 module _ (n : ℕ) (to from : ℕ → ℕ) (from_to : (k : ℕ) → k < n → from (to k) ≡ k) where

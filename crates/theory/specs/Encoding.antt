@@ -19,6 +19,7 @@
 --   largest_form             the most numbers that a form has
 --   graph_verdict xs room    reading that graph, with room for so many numbers of its form: 1, 2, 3
 --   form_verdict xs room     finding its form, with that room: 1, 2, 3, 5
+--   encoded_form xs          the encoded graph that the form xs writes down: its count of blank nodes, its count of rows, and its rows
 --   read_verdict xs room     reading the form xs back into an encoded graph, with room for so many numbers: 1, 2, 3, 5, 4
 --   mapping_verdict g h p    whether the row p is an isomorphism of g and h: 6, 7, 8
 --   check_verdict xs ys p    the same of two encoded graphs: 1 and 2 of the first, then of the second, then 6, 7, 8
@@ -95,6 +96,9 @@ form_verdict xs room = first_refusal (graph_verdict xs room ∷ leaves_verdict (
 -- how many rows of a triple's width come behind the first number
 abbrev pub row_count : Row → ℕ
 row_count xs = (length xs - 1) / width
+
+abbrev pub encoded_form : Row → Row
+encoded_form xs = blank_count xs ∷ row_count xs ∷ drop 1 xs
 
 abbrev pub read_verdict : Row → ℕ → Verdict
 read_verdict xs room =
