@@ -10,30 +10,36 @@
 --   Sized g room r      a refusal by number 3 is the one for that cause
 --   Headed xs h   h has the counts that xs begins with, they are within their bounds, and xs has all its numbers
 --   line v        the verdict in a line of text
-use Rattle.std.specs.Prelude.{◌≡◌, ℕ, ◌≤◌, cond, List, ◌++◌, length, Ok, Err, codes, decimal, Result, nat_lt}
+use Rattle.std.specs.Prelude.{◌≡◌, ℕ, suc, ◌≤◌, cond, List, ◌++◌, length, Ok, Err, codes, decimal, Result, nat_lt}
 use Rattle.theory.specs.Row.{Row}
 use Rattle.theory.specs.Graph.{Graph, different}
 use Rattle.theory.specs.Refusal.{Verdict, accepted, refused}
-use Rattle.theory.specs.Encoding.{most_blanks, most_written, most_different, blank_count, triple_count, graph_length}
+use Rattle.theory.specs.Encoding.{most_blanks, most_written, most_different, most_leaves, blank_count, triple_count, graph_length}
 use Rattle.graph.specs.declared.encoded.Header.{Header}
 use Rattle.graph.specs.declared.refusal.Refusal.{Refusal}
-use Rattle.graph.specs.declared.refusal.Refusal.TheVariants.{CutShort, TooManyBlankNodes, TooManyTriples, NoTriple, TooManyDifferentTriples, TooLittleRoom}
+use Rattle.graph.specs.declared.refusal.Refusal.TheVariants.{CutShort, WrongLength, TooManyBlankNodes, TooManyTriples, NoTriple, TooManyDifferentTriples, TooLittleRoom, NotItsForm, TooManyLeaves}
 
 abbrev pub number_of : Refusal → ℕ
 number_of (CutShort length) = 1
+number_of (WrongLength length) = 1
 number_of (TooManyBlankNodes count) = 1
 number_of (TooManyTriples count) = 1
 number_of (NoTriple row) = 2
 number_of TooManyDifferentTriples = 3
 number_of (TooLittleRoom room) = 3
+number_of (NotItsForm length) = 4
+number_of TooManyLeaves = 5
 
 abbrev pub place_of : Refusal → ℕ
 place_of (CutShort length) = length
+place_of (WrongLength length) = length
 place_of (TooManyBlankNodes count) = count
 place_of (TooManyTriples count) = count
 place_of (NoTriple row) = row
 place_of TooManyDifferentTriples = most_different
 place_of (TooLittleRoom room) = room
+place_of (NotItsForm length) = length
+place_of TooManyLeaves = suc most_leaves
 
 abbrev pub told : Refusal → Verdict
 told r = refused (number_of r) (place_of r)

@@ -9,6 +9,9 @@ mod triples;
 // How many different triples a graph may have for its form to be found.
 pub const MOST_DIFFERENT: usize = 256;
 
+// How many leaves a graph's search tree may have for its form to be found.
+pub const MOST_LEAVES: usize = 1024;
+
 // The most numbers that a form has: one, and a row for each different triple.
 pub const LARGEST_FORM: usize = 1 + WIDTH * MOST_DIFFERENT;
 

@@ -114,5 +114,17 @@ fn told_in_a_line(rt: HostRuntime) -> Result<(), Fail> {
         Refusal::NoTriple(65535).to_string(rt.alloc())?.as_str(),
         "refused 2 at 65535"
     );
+    assert_eq!(rt;
+        Refusal::WrongLength(0).to_string(rt.alloc())?.as_str(),
+        "refused 1 at 0"
+    );
+    assert_eq!(rt;
+        Refusal::NotItsForm(6).to_string(rt.alloc())?.as_str(),
+        "refused 4 at 6"
+    );
+    assert_eq!(rt;
+        Refusal::TooManyLeaves.to_string(rt.alloc())?.as_str(),
+        "refused 5 at 1025"
+    );
     Ok(())
 }
