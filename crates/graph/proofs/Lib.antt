@@ -1,4 +1,4 @@
 mod Different
-mod Rows
+pub mod Parts
 pub mod SimpleGraph
 mod Verdict

@@ -1,4 +1,5 @@
 pub mod Answer
+pub mod Parts
 pub mod Verdicts
 pub mod Triple
 pub mod Triples

@@ -4,7 +4,9 @@
 --   place_of r    its place
 --   told r        the verdict that it is
 --   verdict_of r  the verdict that a check's result is: accepted, or what its refusal tells
---   cause xs      which of the three causes of number 1 applies first to the numbers xs, if one does
+--   ForCause number c r   if the result r is a refusal by that number, it is the refusal c
+--   count_cause n k   which of the two causes of number 1 applies first to n blank nodes and k triples as written, if one does
+--   cause xs      which of the three causes of number 1 applies first to the numbers xs that encode a graph, if one does
 --   Caused xs r   a refusal of xs by number 1 is the one for that cause
 --   size_cause g room   which of the two causes of number 3 applies first to the graph g and the room for its form
 --   Sized g room r      a refusal by number 3 is the one for that cause
@@ -48,21 +50,24 @@ abbrev pub verdict_of : {X : Type 0} → Result X Refusal → Verdict
 verdict_of (Ok x) = accepted
 verdict_of (Err r) = told r
 
+abbrev pub ForCause : {X : Type 0} → ℕ → Refusal → Result X Refusal → Type 0
+ForCause number c (Ok x) = Unit {0}
+ForCause number c (Err r) = number_of r ≡ number → r ≡ c
+
+abbrev pub count_cause : ℕ → ℕ → Refusal
+count_cause n k = cond (nat_lt most_blanks n) (TooManyBlankNodes n) (TooManyTriples k)
+
 abbrev pub cause : Row → Refusal
-cause xs =
-    cond (nat_lt (length xs) (graph_length xs)) (CutShort (length xs))
-    (cond (nat_lt most_blanks (blank_count xs)) (TooManyBlankNodes (blank_count xs)) (TooManyTriples (triple_count xs)))
+cause xs = cond (nat_lt (length xs) (graph_length xs)) (CutShort (length xs)) (count_cause (blank_count xs) (triple_count xs))
 
 abbrev pub Caused : {X : Type 0} → Row → Result X Refusal → Type 0
-Caused xs (Ok x) = Unit {0}
-Caused xs (Err r) = number_of r ≡ 1 → r ≡ cause xs
+Caused xs r = ForCause 1 (cause xs) r
 
 abbrev pub size_cause : Graph → ℕ → Refusal
 size_cause g room = cond (nat_lt most_different (length (different g))) TooManyDifferentTriples (TooLittleRoom room)
 
 abbrev pub Sized : {X : Type 0} → Graph → ℕ → Result X Refusal → Type 0
-Sized g room (Ok x) = Unit {0}
-Sized g room (Err r) = number_of r ≡ 3 → r ≡ size_cause g room
+Sized g room r = ForCause 3 (size_cause g room) r
 
 pub record Headed (xs : Row) (h : Header) : Type 0 where
   pub blanks : h.blanks ≡ blank_count xs

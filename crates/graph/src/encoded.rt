@@ -1,8 +1,9 @@
 ghost use Rattle.std.specs.Prelude.{◌≡◌, ◌+◌, ◌*◌, ◌<◌, ◌≤◌, length, drop, IfOk, IfErr, MatchOption, MatchResult, not, position};
 ghost use Rattle.theory.specs.Row.{rows_of};
 ghost use Rattle.theory.specs.Triple.{width, triple_fits};
-ghost use Rattle.theory.specs.Encoding.{most_blanks, graph_length, header_verdict, rows_verdict, encoding_verdict};
-ghost use Rattle.graph.specs.Verdicts.{number_of, verdict_of, Caused, Headed};
+ghost use Rattle.theory.specs.Encoding.{most_blanks, graph_length, encoding_verdict};
+ghost use Rattle.graph.specs.Parts.{whole_rows, parts_verdict};
+ghost use Rattle.graph.specs.Verdicts.{number_of, verdict_of, ForCause, count_cause, Caused, Headed};
 
 use crate::refusal::Refusal;
 use crate::triple::Triple;
@@ -36,38 +37,41 @@ pub fn whole_length(graph: &[u64]) -> Option<usize>
     Some(2 + WIDTH * *triples as usize)
 }
 
-// The counts, if they are within their bounds. Which cause a refusal tells is a fact about the numbers too, so no type of the answer can carry
-// it, and what hands an answer on says it again (`Caused`).
-fn read_header(graph: &[u64]) -> Result<Header, Refusal>
-    ensures verdict { verdict_of result ≡ header_verdict graph.now }
-    ensures number { IfErr result (λ e. number_of e ≡ 1) }
-    ensures cause { Caused graph.now result }
-    ensures header { IfOk result (Headed graph.now) }
-{
-    whole_length(graph).ok_or(Refusal::CutShort(graph.len() as u64))?;
-    let blanks = graph[0];
-    if blanks > MOST_BLANK_NODES as u64 {
-        return Err(Refusal::TooManyBlankNodes(blanks));
-    }
-    let triples = graph[1];
-    if triples > MOST_WRITTEN {
-        return Err(Refusal::TooManyTriples(triples));
-    }
-    Ok(Header { blanks, triples })
-}
-
-// The header, if the numbers encode a graph. What comes behind the last triple is not looked at.
+// The header, if the numbers encode a graph. What comes behind the last triple is not looked at. Which cause a refusal tells is a fact about the
+// numbers too, so no type of the answer can carry it, and what hands an answer on says it again (`ForCause`).
+#[tactic(auto, using(crate::proofs::Parts::parts_encoded))]
 pub fn check(graph: &[u64]) -> Result<Header, Refusal>
     ensures verdict { verdict_of result ≡ encoding_verdict graph.now }
     ensures number { IfErr result (λ e. number_of e < 3) }
     ensures cause { Caused graph.now result }
     ensures header { IfOk result (Headed graph.now) }
 {
-    let header = read_header(graph)?;
-    let (rows, _) = graph[2..].as_chunks();
-    match first_fault(&rows[..header.triples as usize], header.blanks) {
+    let whole = whole_length(graph).ok_or(Refusal::CutShort(graph.len() as u64))?;
+    let blanks = graph[0];
+    check_rows(blanks, &graph[2..whole])?;
+    Ok(Header {
+        blanks,
+        triples: graph[1],
+    })
+}
+
+// Whether a graph with so many blank nodes can have these rows. Numbers that are left behind the last whole row are not looked at.
+pub fn check_rows(blanks: u64, rows: &[u64]) -> Result<(), Refusal>
+    ensures verdict { verdict_of result ≡ parts_verdict blanks rows.now }
+    ensures number { IfErr result (λ e. number_of e < 3) }
+    ensures cause { ForCause 1 (count_cause blanks (whole_rows rows.now)) result }
+{
+    if blanks > MOST_BLANK_NODES as u64 {
+        return Err(Refusal::TooManyBlankNodes(blanks));
+    }
+    let (rows, _) = rows.as_chunks();
+    let triples = rows.len() as u64;
+    if triples > MOST_WRITTEN {
+        return Err(Refusal::TooManyTriples(triples));
+    }
+    match first_fault(rows, blanks) {
         Some(row) => Err(Refusal::NoTriple(row as u64)),
-        None => Ok(header),
+        None => Ok(()),
     }
 }
 

@@ -16,6 +16,7 @@ fn opening_example(rt: HostRuntime) -> Result<(), Fail> {
         .err()
         .ok_or("not refused")?;
     assert_eq!(rt; refusal.to_string(rt.alloc())?.as_str(), "refused 2 at 0");
+    assert_eq!(rt; encoded::check_rows(2, &[1, 0, 7, 0, 5]), Ok(()));
     Ok(())
 }
 
@@ -102,6 +103,48 @@ fn numbers_behind_are_ignored(rt: HostRuntime) {
             triples: 1,
         })
     );
+}
+
+#[test]
+fn rows_alone(rt: HostRuntime) {
+    assert_eq!(rt; encoded::check_rows(2, &[1, 1, 7, 0, 5]), Ok(()));
+    assert_eq!(rt;
+        encoded::check_rows(1, &[1, 1, 7, 0, 5]),
+        Err(Refusal::NoTriple(0)),
+        "blank node 1 of 1"
+    );
+    assert_eq!(rt;
+        encoded::check_rows(2, &[0, 9, 9, 1, 1, 0, 9, 9, 1, 2, 2, 2, 2, 2, 2]),
+        Err(Refusal::NoTriple(1)),
+        "the first that is at fault"
+    );
+    assert_eq!(rt;
+        encoded::check_rows(33, &[2, 2, 2, 2, 2]),
+        Err(Refusal::TooManyBlankNodes(33)),
+        "number 1 is told first"
+    );
+    assert_eq!(rt; encoded::check_rows(32, &[]), Ok(()));
+    assert_eq!(rt;
+        encoded::check_rows(0, &[2, 2, 2, 2]),
+        Ok(()),
+        "no whole row"
+    );
+    assert_eq!(rt;
+        encoded::check_rows(0, &[0, 7, 7, 0, 7, 2]),
+        Ok(()),
+        "behind the last whole row"
+    );
+}
+
+#[test]
+fn too_many_rows(rt: HostRuntime) -> Result<(), Fail> {
+    let rows = vec![in rt.alloc(); 0; 5 * 65537]?;
+    assert_eq!(rt;
+        encoded::check_rows(0, rows.as_slice()),
+        Err(Refusal::TooManyTriples(65537))
+    );
+    assert_eq!(rt; encoded::check_rows(0, &rows[1..]), Ok(()));
+    Ok(())
 }
 
 #[test]

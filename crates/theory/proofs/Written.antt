@@ -1,15 +1,15 @@
--- The rows of an accepted encoding. Each has a triple's width and fits, so that it is the row of the triple that it writes down; the simple
--- graph is therefore read off the rows as they are written.
-use Rattle.std.proofs.Common.{◌≡◌, ℕ, zero, suc, ◌≤◌, true, List, [], ◌∷◌, map, length, drop, sym, refl, ap, ◌∙◌, arith}
+-- Rows that are accepted. Each has a triple's width and fits, so that it is the row of the triple that it writes down; the simple graph is
+-- therefore read off the rows as they are written.
+use Rattle.std.proofs.Common.{◌≡◌, ℕ, zero, suc, ◌*◌, ◌≤◌, true, List, [], ◌∷◌, map, length, drop, sym, refl, ap, ◌∙◌, arith}
 use Rattle.std.specs.List.{AllByRecursion as All}
-use Rattle.std.proofs.lemmas.List.{length-drop, length-map}
+use Rattle.std.proofs.lemmas.List.{length-map}
 use Rattle.std.proofs.lemmas.Bool.{and_parts}
 use Rattle.theory.specs.Row.{Row, rows_of}
 use Rattle.theory.specs.Multiset.{sorted_set}
 use Rattle.theory.specs.Triple.{width, term_row, triple_row, term_of, triple_of, term_fits, triple_fits, triples_of}
 use Rattle.theory.specs.Graph.{Graph, different, simple}
-use Rattle.theory.specs.Refusal.{accepted}
-use Rattle.theory.specs.Encoding.{graph_in, blank_count, triple_count, graph_length, header_verdict, rows_verdict, encoding_verdict}
+use Rattle.theory.specs.Refusal.{Verdict, accepted, first_refusal}
+use Rattle.theory.specs.Encoding.{blank_count, triple_count, header_verdict, rows_verdict, encoding_verdict}
 use Rattle.theory.proofs.RowsOf.{Wide, rows_of_wide}
 use Rattle.theory.proofs.Refusal.{first_accepted, no_fault}
 use Rattle.theory.proofs.ReadBack.{IsTripleRow}
@@ -45,26 +45,32 @@ pub rows_again : (rows : List Row) → All IsTripleRow rows → map triple_row (
 rows_again [] h = refl
 rows_again (r ∷ rs) h = let e = h.0 in let ih = rows_again rs h.1 in cc
 
+-- the first k rows of xs, in a graph of n blank nodes, if they are accepted after what is told before
+module _ (before : Verdict) (n k : ℕ) (xs : Row) (ok : first_refusal (before ∷ rows_verdict n k xs ∷ []) ≡ accepted) where
+  pub written_fit : All (λ r. triple_fits n r ≡ true) (rows_of width k xs)
+  written_fit =
+      let a = first_accepted before (rows_verdict n k xs ∷ []) ok in
+      no_fault (triple_fits n) 2 0 (rows_of width k xs) (first_accepted (rows_verdict n k xs) [] a.1).0
+
+  module _ (long : width * k ≤ length xs) where
+    written_rows : All IsTripleRow (rows_of width k xs)
+    written_rows = rows_fit n (rows_of width k xs) (rows_of_wide width k xs long) written_fit
+
+    -- the simple graph, read off the rows
+    pub simple_written : simple (record { blanks = n; triples = triples_of k xs }) ≡ record { blanks = n; triples = map triple_of (sorted_set (rows_of width k xs)) }
+    unfolding simple triples_of
+    simple_written = ap (λ rows. record { blanks = n; triples = map triple_of (sorted_set rows) }) (rows_again (rows_of width k xs) written_rows)
+
+    pub different_written : length (different (record { blanks = n; triples = triples_of k xs })) ≡ length (sorted_set (rows_of width k xs))
+    different_written =
+        sym (simple_length (record { blanks = n; triples = triples_of k xs }))
+        ∙ ap (λ (g : Graph). length g.triples) simple_written
+        ∙ length-map (sorted_set (rows_of width k xs)) triple_of
+
+-- those of an accepted encoding
 module _ (xs : Row) (ok : encoding_verdict xs ≡ accepted) where
   abbrev pub rows_in : List Row
   rows_in = rows_of width (triple_count xs) (drop 2 xs)
 
   pub accepted_fit : All (λ r. triple_fits (blank_count xs) r ≡ true) rows_in
-  accepted_fit =
-      let a = first_accepted (header_verdict xs) (rows_verdict (blank_count xs) (triple_count xs) (drop 2 xs) ∷ []) ok in
-      let b = first_accepted (rows_verdict (blank_count xs) (triple_count xs) (drop 2 xs)) [] a.1 in
-      no_fault (triple_fits (blank_count xs)) 2 0 rows_in b.0
-
-  pub accepted_rows : graph_length xs ≤ length xs → All IsTripleRow rows_in
-  accepted_rows whole =
-      let d = length-drop 2 xs in
-      rows_fit (blank_count xs) rows_in (rows_of_wide width (triple_count xs) (drop 2 xs) (omega arith)) accepted_fit
-
-  -- the simple graph, read off the rows
-  pub simple_encoded : graph_length xs ≤ length xs → simple (graph_in xs) ≡ record { blanks = blank_count xs; triples = map triple_of (sorted_set rows_in) }
-  unfolding simple graph_in triples_of
-  simple_encoded whole = ap (λ rows. record { blanks = blank_count xs; triples = map triple_of (sorted_set rows) }) (rows_again rows_in (accepted_rows whole))
-
-  pub different_encoded : graph_length xs ≤ length xs → length (different (graph_in xs)) ≡ length (sorted_set rows_in)
-  different_encoded whole =
-      sym (simple_length (graph_in xs)) ∙ ap (λ (g : Graph). length g.triples) (simple_encoded whole) ∙ length-map (sorted_set rows_in) triple_of
+  accepted_fit = written_fit (header_verdict xs) (blank_count xs) (triple_count xs) (drop 2 xs) ok
