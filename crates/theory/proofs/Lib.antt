@@ -14,6 +14,7 @@ pub mod TreesAgree
 pub mod Triple
 pub mod Refinement
 pub mod Below
+pub mod Standstill
 pub mod CanonicalForm
 pub mod Isomorphism
 pub mod Labelling
