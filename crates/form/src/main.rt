@@ -1,7 +1,8 @@
-// Prints a line for each graph that it reads.
+// Prints a line for each graph that it reads: its form, or why it is refused.
 #![tactic(auto)]
 
 use crate::answer::line_for;
+use graph::simple::LARGEST_FORM;
 use input::source::read_all;
 use std::io;
 use std::io::{BufWriter, Write};
@@ -12,9 +13,10 @@ fn main(rt: HostRuntime) -> io::Result<()> {
     let heap = rt.alloc();
     let sources = read_all(&rt)?;
     let mut out = BufWriter::new(heap, rt.stdout())?;
+    let mut room = [0; LARGEST_FORM];
     for source in sources.iter() {
         for graph in source.graphs() {
-            let line = line_for(heap, graph)?;
+            let line = line_for(heap, graph, &mut room)?;
             writeln!(out, "{line}")?;
         }
     }

@@ -1,0 +1,23 @@
+-- The line that is printed for a graph.
+--
+--   spaced xs         the numbers xs in decimal, with one blank between each two
+--   line_with v xs    the line for the verdict v: the numbers xs if it is accepted, else which refusal it is, and its place
+--   line_of xs        the line for the graph that xs encodes: its form, or the first refusal that applies
+use Rattle.std.specs.Prelude.{ℕ, List, [], ◌∷◌, ◌++◌, codes, decimal}
+use Rattle.std.specs.List.{flat_map}
+use Rattle.theory.specs.Row.{Row}
+use Rattle.theory.specs.Refusal.{Verdict, accepted, refused}
+use Rattle.theory.specs.CanonicalForm.{form}
+use Rattle.theory.specs.Encoding.{graph_in, form_verdict, largest_form}
+use Rattle.graph.specs.Verdicts.{line}
+
+abbrev pub spaced : Row → List ℕ
+spaced [] = []
+spaced (x ∷ xs) = decimal x ++ flat_map (λ y. codes " " ++ decimal y) xs
+
+abbrev pub line_with : Verdict → Row → List ℕ
+line_with accepted xs = spaced xs
+line_with (refused number place) xs = line (refused number place)
+
+abbrev pub line_of : Row → List ℕ
+line_of xs = line_with (form_verdict xs largest_form) (form (graph_in xs))
