@@ -1,3 +1,4 @@
+use crate::worked::{WORKED, padded};
 use graph::simple::LARGEST_FORM;
 use graph::simple::reading::read_graph;
 use refinement::colouring::Colouring;
@@ -11,70 +12,22 @@ fn stable_colours(graph: &[u64]) -> Result<[u64; 32], Fail> {
     Ok(stable(&mut Refiner::new(&graph), Colouring::uniform()).of)
 }
 
-// These colours, and 0 past them, where nothing was touched.
-fn colours(first: &[u64]) -> [u64; 32] {
-    let mut all = [0; 32];
-    for (place, colour) in all.iter_mut().zip(first) {
-        *place = *colour;
-    }
-    all
-}
-
 #[test]
 fn opening_example(rt: HostRuntime) -> Result<(), Fail> {
-    assert_eq!(rt; stable_colours(&[2, 1, 1, 0, 7, 0, 5])?, colours(&[1, 0]));
+    assert_eq!(rt; stable_colours(&[2, 1, 1, 0, 7, 0, 5])?, padded(&[1, 0]));
     Ok(())
 }
 
 #[test]
 fn worked_examples(rt: HostRuntime) -> Result<(), Fail> {
-    let examples: [(&[u64], &[u64], &str); 6] = [
-        (
-            &[2, 3, 1, 0, 1, 0, 5, 1, 0, 2, 1, 1, 1, 1, 1, 0, 5],
-            &[0, 1],
-            "x0 1 5, x0 2 x1, x1 1 5",
-        ),
-        (
-            &[
-                2, 4, 1, 0, 1, 0, 5, 1, 1, 2, 1, 0, 1, 1, 1, 0, 5, 1, 1, 1, 0, 5,
-            ],
-            &[1, 0],
-            "the same, numbered the other way round, with a triple repeated",
-        ),
-        (
-            &[2, 2, 1, 0, 1, 0, 5, 1, 1, 1, 0, 5],
-            &[0, 0],
-            "two that nothing tells apart",
-        ),
-        (
-            &[
-                4, 4, 1, 0, 3, 1, 1, 1, 1, 3, 1, 2, 1, 2, 3, 1, 3, 1, 3, 3, 1, 0,
-            ],
-            &[0, 0, 0, 0],
-            "a ring of four",
-        ),
-        (
-            &[
-                4, 4, 1, 0, 3, 1, 1, 1, 1, 3, 1, 0, 1, 2, 3, 1, 3, 1, 3, 3, 1, 2,
-            ],
-            &[0, 0, 0, 0],
-            "two rings of two",
-        ),
-        (&[1, 1, 1, 0, 3, 1, 0], &[0], "x0 3 x0"),
-    ];
-    for (graph, expected, what) in examples {
-        assert_eq!(rt; stable_colours(graph)?, colours(expected), "{what}");
+    for worked in WORKED {
+        assert_eq!(rt;
+            stable_colours(worked.graph)?,
+            padded(worked.colours),
+            "{}",
+            worked.what
+        );
     }
-    Ok(())
-}
-
-#[test]
-fn itself_is_not_another(rt: HostRuntime) -> Result<(), Fail> {
-    // x0 3 x0, x1 3 x2, x2 3 x1: were x0 to see itself as one of its colour, all three would look the same.
-    assert_eq!(rt;
-        stable_colours(&[3, 3, 1, 0, 3, 1, 0, 1, 1, 3, 1, 2, 1, 2, 3, 1, 1])?,
-        colours(&[0, 1, 1])
-    );
     Ok(())
 }
 
