@@ -5,6 +5,7 @@
 use crate::orders::put_all;
 use crate::timing::Timing;
 use anyhow::Error;
+use canonical_form::form::form_of;
 use graph::simple::reading::read_graph;
 use graph::simple::{LARGEST_FORM, SimpleGraph};
 use refinement::colouring::Colouring;
@@ -30,7 +31,7 @@ fn main(rt: HostRuntime) -> anyhow::Result<()> {
     time_steps(&rt, &large)
 }
 
-// What is done on the way to the stable colouring of an encoded graph.
+// What is done on the way to the form of an encoded graph, and at last all of it.
 fn time_steps(rt: &HostRuntime, encoded: &[u64]) -> anyhow::Result<()> {
     time(rt, "different triples read", || {
         read_graph(encoded, LARGEST_FORM).map_or(0, |graph| graph.triples().len())
@@ -45,6 +46,10 @@ fn time_steps(rt: &HostRuntime, encoded: &[u64]) -> anyhow::Result<()> {
     })?;
     time(rt, "is the greatest stable colour", || {
         greatest_colour(stable(&mut refiner, Colouring::uniform()))
+    })?;
+    let mut out = [0; LARGEST_FORM];
+    time(rt, "numbers of the form found", || {
+        form_of(encoded, &mut out).unwrap_or(0)
     })?;
     Ok(())
 }
