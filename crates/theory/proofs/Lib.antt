@@ -15,6 +15,7 @@ pub mod Triple
 pub mod Refinement
 pub mod Below
 pub mod Standstill
+pub mod SameOrder
 pub mod CanonicalForm
 pub mod Isomorphism
 pub mod Labelling
