@@ -7,7 +7,7 @@ use std::alloc::{AllocError, Global};
 use std::fmt::Write;
 
 // The line that is printed for a graph. Its text is proved here; what `main` adds is the end of the line. The form is written into the room, which
-// is lent, so that it need not be filled anew for each graph.
+// is lent, so that it need not be filled anew for each graph; what it holds afterwards means nothing.
 pub(crate) fn line_for(
     heap: Global,
     graph: &[u64],

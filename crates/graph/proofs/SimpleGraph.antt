@@ -16,6 +16,10 @@ use Rattle.graph.specs.Triple.{triple_is}
 use Rattle.graph.specs.SimpleGraph.{graph_of}
 use Rattle.graph.specs.declared.simple.SimpleGraph.{SimpleGraph}
 
+-- as many triples as are lent
+pub count_is : {X Y : Type 0} (f : X → Y) (ts : List X) (us : List Y) → map f ts ≡ us → length ts ≡ length us
+count_is f ts us e = sym (length-map ts f) ∙ ap length e
+
 -- triples are read off their rows
 triples_again : (ts : List Triple) → map triple_of (map triple_row ts) ≡ ts
 triples_again [] = refl

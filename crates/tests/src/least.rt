@@ -3,14 +3,14 @@ use crate::worked::{WORKED, padded, pairs};
 use graph::refusal::Refusal;
 use graph::simple::LARGEST_FORM;
 use graph::simple::reading::read_graph;
-use search_tree::least::{Found, LONGEST, find_least};
+use search_tree::least::{Found, LONGEST_CERTIFICATE, find_least};
 use std::test::Fail;
 
 // What is found of an encoded graph.
-fn found(graph: &[u64], best: &mut [u64; LONGEST]) -> Result<Found, Refusal> {
+fn found(graph: &[u64], best: &mut [u64; LONGEST_CERTIFICATE]) -> Result<Found, Refusal> {
     find_least(
         &read_graph(graph, LARGEST_FORM)?,
-        &mut [FILLER; LONGEST],
+        &mut [FILLER; LONGEST_CERTIFICATE],
         best,
     )
 }
@@ -20,7 +20,7 @@ fn found(graph: &[u64], best: &mut [u64; LONGEST]) -> Result<Found, Refusal> {
 fn worked_examples(rt: HostRuntime) -> Result<(), Fail> {
     for worked in WORKED {
         let what = worked.what;
-        let mut best = [FILLER; LONGEST];
+        let mut best = [FILLER; LONGEST_CERTIFICATE];
         let found = found(worked.graph, &mut best)?;
         assert_eq!(rt; found.leaves, worked.leaves, "{what}");
         assert_eq!(rt; found.labelling.of, padded(worked.labelling), "{what}");
@@ -33,8 +33,8 @@ fn worked_examples(rt: HostRuntime) -> Result<(), Fail> {
 #[test]
 fn both_rows_keep_what_lies_past_a_certificate(rt: HostRuntime) -> Result<(), Fail> {
     let graph = read_graph(&[2, 2, 1, 0, 1, 0, 5, 1, 1, 1, 0, 5], LARGEST_FORM)?;
-    let mut written = [FILLER; LONGEST];
-    find_least(&graph, &mut written, &mut [FILLER; LONGEST])?;
+    let mut written = [FILLER; LONGEST_CERTIFICATE];
+    find_least(&graph, &mut written, &mut [FILLER; LONGEST_CERTIFICATE])?;
     assert!(rt;
         holds_only(&written, &[1, 0, 1, 0, 5, 1, 1, 1, 0, 5]),
         "the second of two leaves, which write the same"
@@ -44,7 +44,7 @@ fn both_rows_keep_what_lies_past_a_certificate(rt: HostRuntime) -> Result<(), Fa
 
 #[test]
 fn count_of_leaves(rt: HostRuntime) -> Result<(), Fail> {
-    let mut best = [FILLER; LONGEST];
+    let mut best = [FILLER; LONGEST_CERTIFICATE];
     let most = pairs(rt.clone()?, 10)?;
     assert_eq!(rt; found(most.as_slice(), &mut best)?.leaves, 1024);
     let more = pairs(rt.clone()?, 11)?;

@@ -7,6 +7,10 @@ use Rattle.theory.specs.Refusal.{Verdict, accepted, refused, refuse_if, first_re
 pub no_refusal : (number at : ℕ) → refused number at ≡ accepted → ⊥
 no_refusal number at e = let z : ◌≡◌ {A = ℕ} 0 1 = cc in omega arith
 
+-- two refusals that are the same have one number
+pub refused_number : (n p i j : ℕ) → refused n p ≡ refused i j → n ≡ i
+refused_number n p i j e = cc
+
 pub first_accepted : (v : Verdict) (vs : List Verdict) → first_refusal (v ∷ vs) ≡ accepted → (v ≡ accepted) × (first_refusal vs ≡ accepted)
 first_accepted accepted vs e = (refl, e)
 first_accepted (refused number at) vs e = absurd (no_refusal number at e)

@@ -22,11 +22,13 @@
 --   encoded_form xs          the encoded graph that the form xs writes down: its count of blank nodes, its count of rows, and its rows
 --   read_verdict xs room     reading the form xs back into an encoded graph, with room for so many numbers: 1, 2, 3, 5, 4
 --   mapping_verdict g h p    whether the row p is an isomorphism of g and h: 6, 7, 8
+--   WrittenAnew xs ys        ys encodes what xs does, with other numbers for blank nodes, and with triples in any order and as often as it likes
 --   check_verdict xs ys p    the same of two encoded graphs: 1 and 2 of the first, then of the second, then 6, 7, 8
-use Rattle.std.specs.Prelude.{ℕ, suc, ◌+◌, ◌-◌, ◌*◌, ◌/◌, ◌%◌, Bool, not, ◌&&◌, [], ◌∷◌, map, length, take, drop, ◌==◌, nat_eq, nat_lt, slice_index}
+use Rattle.std.specs.Prelude.{◌≡◌, ℕ, suc, ◌+◌, ◌-◌, ◌*◌, ◌/◌, ◌%◌, Bool, not, ◌&&◌, [], ◌∷◌, map, length, take, drop, ◌==◌, nat_eq, nat_lt, slice_index}
 use Rattle.theory.specs.Row.{Row, same_row, rows_of}
 use Rattle.theory.specs.Lists.{numbers, member}
-use Rattle.theory.specs.Triple.{width, triple_fits, same_triple, relabel, triples_of}
+use Rattle.theory.specs.Colouring.{Numbering}
+use Rattle.theory.specs.Triple.{Triple, width, triple_fits, same_triple, relabel, Within, triples_of}
 use Rattle.theory.specs.Graph.{Graph, holds, different}
 use Rattle.theory.specs.Refinement.{leaves}
 use Rattle.theory.specs.CanonicalForm.{form, read_back}
@@ -57,6 +59,13 @@ graph_length xs = 2 + width * triple_count xs
 
 unfoldable pub graph_in : Row → Graph
 graph_in xs = record { blanks = blank_count xs; triples = triples_of (triple_count xs) (drop 2 xs) }
+
+abbrev pub WrittenAnew : Row → Row → Type 0
+WrittenAnew xs ys =
+    (p : Row)
+    × (blank_count xs ≡ blank_count ys)
+    × Numbering (blank_count xs) p
+    × ((t : Triple) → Within (blank_count xs) t → holds (relabel (place p) t) (graph_in ys) ≡ holds t (graph_in xs))
 
 -- n blank nodes and k triples as written
 abbrev pub counts_verdict : ℕ → ℕ → Verdict
