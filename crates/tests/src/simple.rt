@@ -9,6 +9,14 @@ const GRAPH: [u64; 22] = [
     2, 4, 1, 1, 1, 0, 5, 1, 1, 2, 1, 0, 1, 0, 1, 0, 5, 1, 1, 1, 0, 5,
 ];
 
+fn triple(subject: Term, predicate: u32, object: Term) -> Triple {
+    Triple {
+        subject,
+        predicate,
+        object,
+    }
+}
+
 #[test]
 fn each_triple_once_and_in_order(rt: HostRuntime) -> Result<(), Fail> {
     let graph = read_graph(&GRAPH, 16)?;
@@ -16,21 +24,9 @@ fn each_triple_once_and_in_order(rt: HostRuntime) -> Result<(), Fail> {
     assert_eq!(rt;
         graph.triples(),
         [
-            Triple {
-                subject: Term::Blank(0),
-                predicate: 1,
-                object: Term::Named(5),
-            },
-            Triple {
-                subject: Term::Blank(1),
-                predicate: 1,
-                object: Term::Named(5),
-            },
-            Triple {
-                subject: Term::Blank(1),
-                predicate: 2,
-                object: Term::Blank(0),
-            },
+            triple(Term::Blank(0), 1, Term::Named(5)),
+            triple(Term::Blank(1), 1, Term::Named(5)),
+            triple(Term::Blank(1), 2, Term::Blank(0)),
         ]
         .as_slice()
     );
@@ -46,16 +42,8 @@ fn rows_alone(rt: HostRuntime) -> Result<(), Fail> {
     assert_eq!(rt;
         graph.triples(),
         [
-            Triple {
-                subject: Term::Blank(0),
-                predicate: 1,
-                object: Term::Named(5),
-            },
-            Triple {
-                subject: Term::Blank(1),
-                predicate: 2,
-                object: Term::Blank(0),
-            },
+            triple(Term::Blank(0), 1, Term::Named(5)),
+            triple(Term::Blank(1), 2, Term::Blank(0)),
         ]
         .as_slice()
     );
