@@ -1,7 +1,7 @@
 ghost use Rattle.std.specs.Prelude.{◌≡◌, ◌+◌, ◌*◌, ◌<◌, ◌≤◌, length, drop, IfOk, IfErr, MatchOption, MatchResult, not, position};
 ghost use Rattle.theory.specs.Row.{rows_of};
 ghost use Rattle.theory.specs.Triple.{width, triple_fits};
-ghost use Rattle.theory.specs.Encoding.{most_blanks, graph_length, encoding_verdict};
+ghost use Rattle.theory.specs.Encoding.{graph_length, encoding_verdict};
 ghost use Rattle.graph.specs.Parts.{whole_rows, parts_verdict};
 ghost use Rattle.graph.specs.Verdicts.{number_of, verdict_of, ForCause, count_cause, Caused, Headed};
 
@@ -69,15 +69,14 @@ pub fn check_rows(blanks: u64, rows: &[u64]) -> Result<(), Refusal>
     if triples > MOST_WRITTEN {
         return Err(Refusal::TooManyTriples(triples));
     }
-    match first_fault(rows, blanks) {
+    match first_fault(rows, blanks as u8) {
         Some(row) => Err(Refusal::NoTriple(row as u64)),
         None => Ok(()),
     }
 }
 
 // The first row that writes no triple down.
-fn first_fault(rows: &[[u64; WIDTH]], blanks: u64) -> Option<usize>
-    requires { blanks ≤ most_blanks }
+fn first_fault(rows: &[[u64; WIDTH]], blanks: u8) -> Option<usize>
     ensures { result ≡ position (λ row. not (triple_fits blanks row)) rows.now }
 {
     rows.iter()
