@@ -27,7 +27,9 @@ pub mod Turn
 pub mod Automorphism
 pub mod Refusal
 pub mod Encoding
+pub mod Mapping
 pub mod FormVerdict
+pub mod Comparison
 pub mod ReadVerdict
 pub mod Meanings
 pub mod Table

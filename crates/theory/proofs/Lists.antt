@@ -162,6 +162,16 @@ module _ {X : Type 0} (same : X → X → Bool) (d : Decider same) where
   index_below x [] h = grind arith
   index_below x (y ∷ ys) h = let ih = index_below x ys in let t = cases_Bool (same x y) in grind arith
 
+  pub index_member : (x : X) (l : List X) → index_of same x l < length l → member same x l ≡ true
+  unfolding member index_of
+  index_member x [] h = absurd (omega arith)
+  index_member x (y ∷ ys) h = let ih = index_member x ys in let t = cases_Bool (same x y) in grind arith
+
+  pub index_absent : (x : X) (l : List X) → member same x l ≡ false → index_of same x l ≡ length l
+  unfolding member index_of
+  index_absent x [] h = refl
+  index_absent x (y ∷ ys) h = let ih = index_absent x ys in let t = cases_Bool (same x y) in grind arith
+
   pub get_or_index : (o x : X) (l : List X) → member same x l ≡ true → get_or l (index_of same x l) o ≡ x
   unfolding member index_of
   get_or_index o x [] h = let z : ◌≡◌ {A = ℕ} 0 1 = cc in absurd (omega arith)

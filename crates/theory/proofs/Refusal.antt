@@ -1,5 +1,7 @@
--- Verdicts: when a list of them, or a search for a fault, ends without a refusal.
-use Rattle.std.proofs.Common.{◌≡◌, ℕ, suc, ◌≤◌, Bool, true, false, ltb, List, [], ◌∷◌, refl, ap, arith}
+-- Verdicts: when a list of them, or a search for a fault, ends without a refusal, and where it ends with one.
+use Rattle.std.proofs.Common.{◌≡◌, ℕ, zero, suc, ◌+◌, ◌<◌, ◌≤◌, get_or, Bool, true, false, not, cond, ltb, List, [], ◌∷◌, map, length, Some, Option, MatchOption, sym, refl, ap, ◌∙◌, subst, add-one, arith}
+use Rattle.std.specs.List.{position, position_from}
+use Rattle.std.proofs.lemmas.Iterator.Adapters.{position_from-zero}
 use Rattle.std.proofs.lemmas.Bool.{ltb-false, le-ltb}
 use Rattle.std.specs.List.{AllByRecursion as All}
 use Rattle.theory.specs.Refusal.{Verdict, accepted, refused, refuse_if, first_refusal, first_fault}
@@ -56,3 +58,42 @@ bound_kept bound n number at e = ltb-false bound n (not_refused (ltb bound n) nu
 
 pub bound_accepted : (bound n number at : ℕ) → n ≤ bound → refuse_if (ltb bound n) number at ≡ accepted
 bound_accepted bound n number at h = ap (λ b. refuse_if b number at) (le-ltb bound n h)
+
+-- a search for a fault, of what is mapped, and by another test that says the same
+pub fault_map : {X Y : Type 0} (number : ℕ) (f : X → Y) (ok : Y → Bool) (i : ℕ) (xs : List X) → first_fault ok number i (map f xs) ≡ first_fault (λ x. ok (f x)) number i xs
+unfolding first_fault
+fault_map number f ok i [] = refl
+fault_map number f ok i (x ∷ xs) = ap (λ v. cond (ok (f x)) v (refused number i)) (fault_map number f ok (suc i) xs)
+
+pub fault_same : {X : Type 0} (number : ℕ) (ok good : X → Bool) (i : ℕ) (xs : List X) → All (λ x. ok x ≡ good x) xs → first_fault ok number i xs ≡ first_fault good number i xs
+unfolding first_fault
+fault_same number ok good i [] h = refl
+fault_same number ok good i (x ∷ xs) h = let e = h.0 in let ih = fault_same number ok good (suc i) xs h.1 in cc
+
+-- the verdict that the place of the first fault tells, or that there is none
+abbrev pub Tells : ℕ → Verdict → Option ℕ → Type 0
+Tells number v r = MatchOption r (accepted ≡ v) (λ i. refused number i ≡ v)
+
+fault_from : {X : Type 0} (number : ℕ) (ok : X → Bool) (i : ℕ) (xs : List X) → Tells number (first_fault ok number i xs) (position_from (λ x. not (ok x)) i xs)
+unfolding first_fault
+fault_from number ok i [] = refl
+fault_from number ok i (x ∷ xs) = rw add-one (go (ok x) (fault_from number ok (suc i) xs))
+  where
+    go : (b : Bool) → Tells number (first_fault ok number (suc i) xs) (position_from (λ x. not (ok x)) (suc i) xs) →
+        Tells number (cond b (first_fault ok number (suc i) xs) (refused number i)) (cond (not b) (Some i) (position_from (λ x. not (ok x)) (suc i) xs))
+    go true h = h
+    go false h = refl
+
+pub fault_told : {X : Type 0} (number : ℕ) (ok : X → Bool) (xs : List X) → Tells number (first_fault ok number 0 xs) (position (λ x. not (ok x)) xs)
+fault_told number ok xs = subst (Tells number (first_fault ok number 0 xs)) (sym (position_from-zero (λ x. not (ok x)) xs)) (fault_from number ok 0 xs)
+
+-- the first fault is at the place k if all before it are right
+pub fault_at : {X : Type 0} (number : ℕ) (ok : X → Bool) (d : X) (i : ℕ) (xs : List X) (k : ℕ) → k < length xs → ((j : ℕ) → j < k → ok (get_or xs j d) ≡ true) → ok (get_or xs k d) ≡ false →
+    first_fault ok number i xs ≡ refused number (i + k)
+unfolding first_fault
+fault_at number ok d i [] k l h e = absurd (omega arith)
+fault_at number ok d i (x ∷ xs) zero l h e = let z : i + 0 ≡ i = omega arith in rw (e, z) refl
+fault_at number ok d i (x ∷ xs) (suc k) l h e =
+    let a : ok x ≡ true = h 0 (omega arith) in
+    let ih = fault_at number ok d (suc i) xs k (omega arith) (λ j m. h (suc j) (omega arith)) e in
+    let z : suc i + k ≡ i + suc k = omega arith in rw a (ih ∙ ap (refused number) z)

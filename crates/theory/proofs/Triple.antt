@@ -73,9 +73,27 @@ relabel_after n f g to e t h =
     let p = term_after n f g to e t.subject h.0 in let q = term_after n f g to e t.object h.1 in
     λ i. record { subject = p i; predicate = t.predicate; object = q i }
 
+-- mappings that do the same to the blank nodes
+pub relabel_same : (n : ℕ) (f g : ℕ → ℕ) → ((k : ℕ) → k < n → g k ≡ f k) → (t : Triple) → Within n t → relabel g t ≡ relabel f t
+relabel_same n f g e t h = ap (relabel g) (sym (relabel_id t)) ∙ relabel_after n f g (λ k. k) e t h
+
 -- there and back
 pub relabel_back : (n : ℕ) (to from : ℕ → ℕ) → ((k : ℕ) → k < n → from (to k) ≡ k) → (t : Triple) → Within n t → relabel from (relabel to t) ≡ t
 relabel_back n to from e t h = relabel_after n (λ k. k) from to e t h ∙ relabel_id t
+
+-- the same where only what the way back leads to is known to be within
+term_forth : (n : ℕ) (to from : ℕ → ℕ) → ((x : ℕ) → from x < n → to (from x) ≡ x) → (x : Term) → TermWithin n (relabel_term from x) →
+    relabel_term to (relabel_term from x) ≡ x
+unfolding relabel_term
+term_forth n to from e (named m) h = refl
+term_forth n to from e (blank k) h = ap blank (e k h)
+
+pub relabel_forth : (n : ℕ) (to from : ℕ → ℕ) → ((x : ℕ) → from x < n → to (from x) ≡ x) → (t : Triple) → Within n (relabel from t) →
+    relabel to (relabel from t) ≡ t
+unfolding relabel
+relabel_forth n to from e t h =
+    let p = term_forth n to from e t.subject h.0 in let q = term_forth n to from e t.object h.1 in
+    λ i. record { subject = p i; predicate = t.predicate; object = q i }
 
 pub term_relabel_within : (n : ℕ) (to : ℕ → ℕ) → ((k : ℕ) → k < n → to k < n) → (x : Term) → TermWithin n x → TermWithin n (relabel_term to x)
 unfolding relabel_term

@@ -22,8 +22,9 @@
 --   encoded_form xs          the encoded graph that the form xs writes down: its count of blank nodes, its count of rows, and its rows
 --   read_verdict xs room     reading the form xs back into an encoded graph, with room for so many numbers: 1, 2, 3, 5, 4
 --   mapping_verdict g h p    whether the row p is an isomorphism of g and h: 6, 7, 8
+--   CheckVerdict             what is told of two encoded graphs and a mapping: it is accepted, or refused, or one of the graphs is
+--   check_verdict xs ys p    that verdict: 1 and 2 of the first, then of the second, then 6, 7, 8
 --   WrittenAnew xs ys        ys encodes what xs does, with other numbers for blank nodes, and with triples in any order and as often as it likes
---   check_verdict xs ys p    the same of two encoded graphs: 1 and 2 of the first, then of the second, then 6, 7, 8
 use Rattle.std.specs.Prelude.{◌≡◌, ℕ, suc, ◌+◌, ◌-◌, ◌*◌, ◌/◌, ◌%◌, Bool, not, ◌&&◌, [], ◌∷◌, map, length, take, drop, ◌==◌, nat_eq, nat_lt, slice_index}
 use Rattle.theory.specs.Row.{Row, same_row, rows_of}
 use Rattle.theory.specs.Lists.{numbers, member}

@@ -10,6 +10,7 @@ pub mod CanonicalForm
 pub mod Isomorphism
 pub mod Refusal
 pub mod Encoding
+pub mod Comparison
 pub mod Theorems
 pub mod Sanity
 pub mod Examples

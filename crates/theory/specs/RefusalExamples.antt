@@ -1,4 +1,4 @@
--- Worked refusals: what is told of some encoded graphs, forms and mappings, by number and place.
+-- Worked refusals: what is told of some encoded graphs, forms and mappings, by number and place; and of two graphs that are compared.
 --
 --   encoded g       the numbers that encode g
 use Rattle.std.specs.Prelude.{◌≡◌, [], ◌∷◌, map, length}
@@ -8,7 +8,9 @@ use Rattle.theory.specs.Triple.{triple_row}
 use Rattle.theory.specs.Graph.{Graph}
 use Rattle.theory.specs.Refusal.{accepted, refused}
 use Rattle.theory.specs.Encoding.{counts_verdict, form_verdict, read_verdict, check_verdict, mapping_accepted, first_refused, second_refused, mapping_refused}
-use Rattle.theory.specs.Examples.{x, n, triple, graph, chain, chain_again, twins, isolated}
+use Rattle.theory.specs.Comparison.{compare_verdict, isomorphic_by, not_isomorphic}
+use Rattle.theory.specs.Comparison as compared
+use Rattle.theory.specs.Examples.{x, n, triple, graph, chain, chain_again, twins, ring, two_pairs, isolated}
 
 abbrev pub encoded : Graph → Row
 encoded g = g.blanks ∷ length g.triples ∷ flatten (map triple_row g.triples)
@@ -30,6 +32,13 @@ stray = graph 2 (triple (x 0) 1 (n 5) ∷ triple (x 0) 2 (x 2) ∷ triple (x 1) 
 -- three blank nodes and no triples
 abbrev pub three_isolated : Graph
 three_isolated = graph 3 []
+
+-- three blank nodes one after the other, and the same with each numbered like the next one
+abbrev pub path : Graph
+path = graph 3 (triple (x 0) 3 (x 1) ∷ triple (x 1) 3 (x 2) ∷ [])
+
+abbrev pub path_turned : Graph
+path_turned = graph 3 (triple (x 1) 3 (x 2) ∷ triple (x 2) 3 (x 0) ∷ [])
 
 -- finding a form: cut short comes before too many blank nodes, and these before too many triples; 16 numbers are room enough for `chain`
 pub record Finding : Type 0 where
@@ -70,7 +79,19 @@ pub record Mapping : Type 0 where
   pub not_back : check_verdict (encoded twins) (encoded chain) (0 ∷ 1 ∷ []) ≡ mapping_refused 8 1
   pub counts : check_verdict (encoded isolated) (encoded three_isolated) (0 ∷ 1 ∷ []) ≡ mapping_refused 8 65536
 
+-- two graphs compared
+pub record Comparing : Type 0 where
+  pub renumbered : compare_verdict (encoded chain) (encoded chain_again) ≡ isomorphic_by (1 ∷ 0 ∷ [])
+  pub turned : compare_verdict (encoded path) (encoded path_turned) ≡ isomorphic_by (1 ∷ 2 ∷ 0 ∷ [])
+  pub itself : compare_verdict (encoded twins) (encoded twins) ≡ isomorphic_by (0 ∷ 1 ∷ [])
+  pub colours_alone : compare_verdict (encoded ring) (encoded two_pairs) ≡ not_isomorphic
+  pub counts : compare_verdict (encoded isolated) (encoded three_isolated) ≡ not_isomorphic
+  pub empty : compare_verdict (0 ∷ 0 ∷ []) (0 ∷ 0 ∷ []) ≡ isomorphic_by []
+  pub both_refused : compare_verdict (0 ∷ []) [] ≡ compared.first_refused 1 1
+  pub second : compare_verdict (encoded chain) (encoded stray) ≡ compared.second_refused 2 1
+
 pub record RefusalTable : Type 0 where
   pub finding : Finding
   pub reading : Reading
   pub mapping : Mapping
+  pub comparing : Comparing
