@@ -1,4 +1,4 @@
 mod Different
 pub mod Parts
 pub mod SimpleGraph
-mod Verdict
+pub mod Verdict

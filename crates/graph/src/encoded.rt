@@ -10,7 +10,8 @@ use crate::triple::Triple;
 
 pub const MOST_BLANK_NODES: usize = 32;
 
-const MOST_WRITTEN: u64 = 65536;
+// How many triples a graph may have as written, repeated ones counted.
+pub const MOST_WRITTEN: u64 = 65536;
 
 // How many numbers a triple is written with.
 pub const WIDTH: usize = 5;

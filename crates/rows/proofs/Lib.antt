@@ -1,4 +1,4 @@
-mod Comparison
+pub mod Comparison
 mod Copies
 mod Growing
 pub mod IndexRows
