@@ -1,0 +1,4 @@
+pub mod Matched
+pub mod Mapping
+pub mod Refusals
+pub mod Compared
