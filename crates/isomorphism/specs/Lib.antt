@@ -5,3 +5,4 @@ pub mod Missing
 pub mod Parts
 pub mod Refusals
 pub mod Compared
+pub mod Promises

@@ -8,4 +8,5 @@
 pub mod check;
 pub mod compare;
 pub mod mapping;
+pub mod promises;
 pub mod refusal;
