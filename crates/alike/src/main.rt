@@ -2,6 +2,7 @@
 #![tactic(auto)]
 
 use crate::answer::answers;
+use input::arguments::arguments;
 use input::source::read_all;
 use std::io;
 use std::io::{BufWriter, Write};
@@ -10,7 +11,7 @@ mod answer;
 
 fn main(rt: HostRuntime) -> io::Result<()> {
     let heap = rt.alloc();
-    let sources = read_all(&rt)?;
+    let sources = read_all(&rt, arguments(&rt)?.as_slice())?;
     let mut graphs = Vec::new(heap);
     for source in sources.iter() {
         for graph in source.graphs() {

@@ -3,6 +3,7 @@
 
 use crate::answer::line_for;
 use graph::simple::LARGEST_FORM;
+use input::arguments::arguments;
 use input::source::read_all;
 use std::io;
 use std::io::{BufWriter, Write};
@@ -11,7 +12,7 @@ mod answer;
 
 fn main(rt: HostRuntime) -> io::Result<()> {
     let heap = rt.alloc();
-    let sources = read_all(&rt)?;
+    let sources = read_all(&rt, arguments(&rt)?.as_slice())?;
     let mut out = BufWriter::new(heap, rt.stdout())?;
     let mut room = [0; LARGEST_FORM];
     for source in sources.iter() {

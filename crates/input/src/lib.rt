@@ -4,6 +4,7 @@
 //     source.graphs()    // the numbers 1 0, one blank node without triples; then the empty row, for the byte behind
 #![tactic(auto)]
 
+pub mod arguments;
 pub mod bytes;
 pub mod graphs;
 pub mod source;

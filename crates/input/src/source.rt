@@ -6,8 +6,8 @@ use crate::bytes::numbers;
 use crate::graphs::Graphs;
 use std::alloc::{AllocError, Global};
 use std::fs::File;
+use std::io;
 use std::io::Read;
-use std::{env, io};
 
 // A file, or standard input, read whole.
 #[derive(Drop)]
@@ -34,10 +34,10 @@ impl Source {
     }
 }
 
-// The files that the arguments name, or standard input where there are none. What cannot be read is named on standard error.
-pub fn read_all(rt: &HostRuntime) -> io::Result<Vec<Source>> {
+// The files of these names, or standard input where there are none. What cannot be read is named on standard error.
+pub fn read_all(rt: &HostRuntime, names: &[String]) -> io::Result<Vec<Source>> {
     let mut sources = Vec::new(rt.alloc());
-    for name in named(rt, "the arguments", env::args(rt))?.skip(1) {
+    for name in names {
         sources.push(named(rt, name.as_str(), read_file(rt, name.as_str()))?)?;
     }
     if sources.is_empty() {
@@ -60,7 +60,7 @@ fn read_whole<R: Read + Drop>(rt: &HostRuntime, mut reader: R) -> io::Result<Sou
 }
 
 // The same, and if it is an error, a line that names what could not be read. A line that cannot be written is let go: the error matters more.
-fn named<T>(rt: &HostRuntime, name: &str, read: io::Result<T>) -> io::Result<T>
+pub(crate) fn named<T>(rt: &HostRuntime, name: &str, read: io::Result<T>) -> io::Result<T>
     ensures { result ≡ read }
 {
     read.inspect_err(|e| {
