@@ -1,6 +1,7 @@
--- Two graphs more of the graphs that are taken in twos.
-use Rattle.std.proofs.Common.{◌≡◌, ℕ, ◌<◌, min, List, [], ◌∷◌, ◌++◌, length, refl, ap, arith, Bor}
+-- Two graphs more of the graphs that are taken in twos, and what is told of them.
+use Rattle.std.proofs.Common.{◌≡◌, ℕ, ◌<◌, ◌≤◌, min, List, [], ◌∷◌, ◌++◌, length, get_or, refl, ap, arith, Bor}
 use Rattle.theory.specs.Row.{Row}
+use Rattle.theory.specs.Comparison.{compare_verdict}
 use Rattle.rows.specs.Written.{held}
 use Rattle.alike.specs.Answer.{of_two, in_twos}
 
@@ -18,3 +19,15 @@ pub in_twos_none : (left : List (Bor Row)) → length left ≡ 0 → length (in_
 unfolding in_twos
 in_twos_none [] none = refl
 in_twos_none (x ∷ left) none = absurd (omega arith)
+
+-- two graphs that are there
+pub of_both : (two : List (Bor Row)) (x y : Bor Row) → 1 < length two → compare_verdict (get_or two 0 x).now (get_or two 1 y).now ≡ of_two (held two)
+of_both [] x y some = absurd (omega arith)
+of_both (a ∷ []) x y some = absurd (omega arith)
+of_both (a ∷ b ∷ two) x y some = refl
+
+-- a last graph without a second
+pub of_one : (two : List (Bor Row)) (x : Bor Row) → 0 < length two → length two ≤ 1 → compare_verdict (get_or two 0 x).now [] ≡ of_two (held two)
+of_one [] x some one = absurd (omega arith)
+of_one (a ∷ []) x some one = refl
+of_one (a ∷ b ∷ two) x some one = absurd (omega arith)

@@ -1,4 +1,5 @@
-// Prints a line for each two graphs that it reads.
+// Prints a line for each two graphs that it reads: which blank node of the second each of the first is mapped to, or that they are not alike, or why
+// one is refused.
 #![tactic(auto)]
 
 use crate::answer::answers;
