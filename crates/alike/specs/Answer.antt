@@ -1,10 +1,14 @@
--- What is told of graphs that are taken in twos.
+-- What is told of graphs that are taken in twos, and of all that was told.
 --
---   of_two two      what is told of two graphs in a row; one that is missing is the empty row
---   in_twos graphs  what is told of the first two, of the next two and so on; a last one without a second has the empty row for it
-use Rattle.std.specs.Prelude.{List, [], ◌∷◌, slice_index_or}
+--   of_two two        what is told of two graphs in a row; one that is missing is the empty row
+--   in_twos graphs    what is told of the first two, of the next two and so on; a last one without a second has the empty row for it
+--   alike v           whether v tells that two graphs are isomorphic
+--   all_alike vs      whether all of vs do
+--   status asked vs   the status that a program ends with: 1 where it is asked whether all are alike, and they are not
+use Rattle.std.specs.Prelude.{ℕ, Bool, true, false, not, cond, ◌&&◌, List, [], ◌∷◌, slice_index_or}
+use Rattle.std.specs.List.{list_all}
 use Rattle.theory.specs.Row.{Row}
-use Rattle.theory.specs.Comparison.{CompareVerdict, compare_verdict}
+use Rattle.theory.specs.Comparison.{CompareVerdict, isomorphic_by, not_isomorphic, first_refused, second_refused, compare_verdict}
 
 abbrev pub of_two : List Row → CompareVerdict
 of_two two = compare_verdict (slice_index_or two 0 []) (slice_index_or two 1 [])
@@ -13,3 +17,15 @@ unfoldable pub in_twos : List Row → List CompareVerdict
 in_twos (xs ∷ ys ∷ graphs) = compare_verdict xs ys ∷ in_twos graphs
 in_twos (xs ∷ []) = compare_verdict xs [] ∷ []
 in_twos [] = []
+
+abbrev pub alike : CompareVerdict → Bool
+alike (isomorphic_by p) = true
+alike not_isomorphic = false
+alike (first_refused number place) = false
+alike (second_refused number place) = false
+
+abbrev pub all_alike : List CompareVerdict → Bool
+all_alike vs = list_all alike vs
+
+abbrev pub status : Bool → List CompareVerdict → ℕ
+status asked vs = cond (asked && not (all_alike vs)) 1 0

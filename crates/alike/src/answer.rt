@@ -1,11 +1,14 @@
 ghost use Rattle.std.specs.Prelude.{◌≡◌, ◌<◌, map, length, IfOk, Some};
+ghost use Rattle.std.specs.List.{list_all};
+ghost use Rattle.std.specs.Process.{exit_status};
 ghost use Rattle.rows.specs.Written.{held};
 ghost use Rattle.isomorphism.specs.Compared.{told, line};
-ghost use Rattle.alike.specs.Answer.{of_two, in_twos};
+ghost use Rattle.alike.specs.Answer.{of_two, in_twos, alike, status};
 
 use isomorphism::compare::{Comparison, compare};
 use std::alloc::{AllocError, Global};
 use std::fmt;
+use std::process::ExitCode;
 
 // An answer for each two graphs.
 pub fn answers(heap: Global, graphs: &[&[u64]]) -> Result<Vec<Comparison>, AllocError>
@@ -25,4 +28,24 @@ fn compare_two(two: &[&[u64]]) -> Comparison
         [first, second, ..] => compare(first, second),
         _ => compare(two[0], &[]),
     }
+}
+
+// The status to end with: a failure, where it is asked whether all are alike, and one is not.
+#[tactic(auto, using(crate::proofs::Alike::all_told))]
+pub fn status(asked: bool, answers: &[Comparison]) -> ExitCode
+    ensures { exit_status result ≡ status asked (map told answers.now) }
+{
+    if asked && !all_alike(answers) {
+        ExitCode::FAILURE
+    } else {
+        ExitCode::SUCCESS
+    }
+}
+
+fn all_alike(answers: &[Comparison]) -> bool
+    ensures { result ≡ list_all (λ a. alike (told a)) answers.now }
+{
+    answers
+        .iter()
+        .all(|answer| matches!(answer, Comparison::Isomorphic(_)))
 }

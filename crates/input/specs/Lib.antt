@@ -1,3 +1,4 @@
+pub mod Arguments
 pub mod Bytes
 pub mod Graphs
 pub mod Source

@@ -1,3 +1,4 @@
+use crate::arguments::strip_option;
 use crate::source::Source;
 use std::test::Fail;
 
@@ -21,5 +22,18 @@ fn cut_short_ends_the_input(rt: HostRuntime) -> Result<(), Fail> {
     assert_eq!(rt; graphs.next(), Some([0, 0].as_slice()));
     assert_eq!(rt; graphs.next(), Some([256, 4294967295].as_slice()));
     assert_eq!(rt; graphs.next(), None);
+    Ok(())
+}
+
+#[test]
+fn only_a_first_word_is_an_option(rt: HostRuntime) -> Result<(), Fail> {
+    let heap = rt.alloc();
+    let option = String::from_str(heap, "--status")?;
+    let name = String::from_str(heap, "--statuses")?;
+    let words = vec![in heap; option.clone()?, name, option]?;
+    let behind = strip_option(words.as_slice(), "--status");
+    assert_eq!(rt; behind.map(|words| words.len()), Some(2));
+    assert_eq!(rt; strip_option(behind.unwrap_or(&[]), "--status"), None);
+    assert_eq!(rt; strip_option(&[], "--status"), None);
     Ok(())
 }
