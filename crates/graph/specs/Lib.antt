@@ -1,4 +1,3 @@
-pub mod Answer
 pub mod Parts
 pub mod Verdicts
 pub mod Triple

@@ -9,7 +9,6 @@
 // one into the other, where it is proved that nothing is lost.
 #![tactic(auto)]
 
-pub mod answer;
 pub mod encoded;
 pub mod refusal;
 pub mod simple;
