@@ -2,6 +2,8 @@
 #![tactic(auto)]
 
 #[cfg(test)]
+mod comparing;
+#[cfg(test)]
 mod encoded;
 #[cfg(test)]
 mod form;
@@ -9,6 +11,8 @@ mod form;
 mod least;
 #[cfg(test)]
 mod lent;
+#[cfg(test)]
+mod mappings;
 #[cfg(test)]
 mod reading;
 #[cfg(test)]

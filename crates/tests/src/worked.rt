@@ -14,10 +14,28 @@ pub(crate) struct Worked<'a> {
     pub(crate) form: &'a [u64],
 }
 
+pub(crate) const CHAIN: [u64; 17] = [2, 3, 1, 0, 1, 0, 5, 1, 0, 2, 1, 1, 1, 1, 1, 0, 5];
+
+pub(crate) const CHAIN_AGAIN: [u64; 22] = [
+    2, 4, 1, 0, 1, 0, 5, 1, 1, 2, 1, 0, 1, 1, 1, 0, 5, 1, 1, 1, 0, 5,
+];
+
+pub(crate) const TWINS: [u64; 12] = [2, 2, 1, 0, 1, 0, 5, 1, 1, 1, 0, 5];
+
+pub(crate) const RING: [u64; 22] = [
+    4, 4, 1, 0, 3, 1, 1, 1, 1, 3, 1, 2, 1, 2, 3, 1, 3, 1, 3, 3, 1, 0,
+];
+
+pub(crate) const TWO_PAIRS: [u64; 22] = [
+    4, 4, 1, 0, 3, 1, 1, 1, 1, 3, 1, 0, 1, 2, 3, 1, 3, 1, 3, 3, 1, 2,
+];
+
+pub(crate) const ISOLATED: [u64; 2] = [2, 0];
+
 pub(crate) const WORKED: [Worked<'static>; 10] = [
     Worked {
         what: "chain: x0 1 5, x0 2 x1, x1 1 5",
-        graph: &[2, 3, 1, 0, 1, 0, 5, 1, 0, 2, 1, 1, 1, 1, 1, 0, 5],
+        graph: &CHAIN,
         colours: &[0, 1],
         leaves: 1,
         labelling: &[0, 1],
@@ -25,9 +43,7 @@ pub(crate) const WORKED: [Worked<'static>; 10] = [
     },
     Worked {
         what: "chain again: numbered the other way round, with a triple repeated",
-        graph: &[
-            2, 4, 1, 0, 1, 0, 5, 1, 1, 2, 1, 0, 1, 1, 1, 0, 5, 1, 1, 1, 0, 5,
-        ],
+        graph: &CHAIN_AGAIN,
         colours: &[1, 0],
         leaves: 1,
         labelling: &[1, 0],
@@ -35,7 +51,7 @@ pub(crate) const WORKED: [Worked<'static>; 10] = [
     },
     Worked {
         what: "twins: two that nothing tells apart",
-        graph: &[2, 2, 1, 0, 1, 0, 5, 1, 1, 1, 0, 5],
+        graph: &TWINS,
         colours: &[0, 0],
         leaves: 2,
         labelling: &[0, 1],
@@ -43,9 +59,7 @@ pub(crate) const WORKED: [Worked<'static>; 10] = [
     },
     Worked {
         what: "a ring of four",
-        graph: &[
-            4, 4, 1, 0, 3, 1, 1, 1, 1, 3, 1, 2, 1, 2, 3, 1, 3, 1, 3, 3, 1, 0,
-        ],
+        graph: &RING,
         colours: &[0, 0, 0, 0],
         leaves: 4,
         labelling: &[0, 2, 3, 1],
@@ -55,9 +69,7 @@ pub(crate) const WORKED: [Worked<'static>; 10] = [
     },
     Worked {
         what: "two rings of two",
-        graph: &[
-            4, 4, 1, 0, 3, 1, 1, 1, 1, 3, 1, 0, 1, 2, 3, 1, 3, 1, 3, 3, 1, 2,
-        ],
+        graph: &TWO_PAIRS,
         colours: &[0, 0, 0, 0],
         leaves: 8,
         labelling: &[0, 1, 2, 3],
@@ -67,7 +79,7 @@ pub(crate) const WORKED: [Worked<'static>; 10] = [
     },
     Worked {
         what: "two blank nodes without triples",
-        graph: &[2, 0],
+        graph: &ISOLATED,
         colours: &[0, 0],
         leaves: 2,
         labelling: &[0, 1],
