@@ -1,12 +1,22 @@
 // Makes calls of the library with numbers up to 2^64 - 1, which four bytes do not hold. A line is the name of the call, how many numbers it is lent
-// for its answer, and the numbers that it is given, in decimal: an encoded graph, or for `read_form` a form. What comes back is a line: the numbers
-// that were written, and behind those of `labelled_form` the labelling, or the refusal. Where other numbers than those of the answer were touched,
-// the line says so instead.
+// for its answer, and the numbers that it is given, in decimal:
+//
+//     form_of ROOM GRAPH..
+//     labelled_form ROOM GRAPH..
+//     read_form ROOM FORM..
+//     compare 0 LENGTH FIRST.. SECOND..
+//     check_mapping 0 LENGTH FIRST.. LENGTH SECOND.. PLACES..
+//
+// A graph is encoded, and has its length before it where something comes behind. What comes back is a line: the numbers that were written, and behind
+// those of `labelled_form` the labelling, or the refusal; what is told of two graphs; and of a mapping `accepted` or the refusal. Where other
+// numbers than those of the answer were touched, the line says so instead.
 #![tactic(auto)]
 
 use anyhow::{Context, bail};
 use canonical_form::form::{Reply, form_of, labelled_form};
 use canonical_form::reading::read_form;
+use isomorphism::check::check_mapping;
+use isomorphism::compare::compare;
 use std::alloc::{AllocError, Global};
 use std::io::{BufRead, BufReader, BufWriter, Write};
 
@@ -48,8 +58,26 @@ fn make_call(heap: Global, line: &str) -> anyhow::Result<String> {
             let reply = read_form(given, lent.as_mut_slice());
             Ok(told(heap, reply, lent.as_slice())?)
         }
+        "compare" => {
+            let (first, second) = split_counted(given).context("no first graph")?;
+            Ok(compare(first, second).to_string(heap)?)
+        }
+        "check_mapping" => {
+            let (first, rest) = split_counted(given).context("no first graph")?;
+            let (second, places) = split_counted(rest).context("no second graph")?;
+            match check_mapping(first, second, places) {
+                Ok(()) => Ok(String::from_str(heap, "accepted")?),
+                Err(refusal) => Ok(refusal.to_string(heap)?),
+            }
+        }
         _ => bail!("no such call: {name}"),
     }
+}
+
+// As many numbers as the first one says, and what is behind them.
+fn split_counted(numbers: &[u64]) -> Option<(&[u64], &[u64])> {
+    let (length, numbers) = numbers.split_first()?;
+    numbers.split_at_checked(usize::try_from(*length).ok()?)
 }
 
 // What a call replied, or that it touched more than that.
