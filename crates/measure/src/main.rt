@@ -6,12 +6,15 @@ use crate::orders::put_all;
 use crate::timing::Timing;
 use anyhow::Error;
 use canonical_form::form::form_of;
+use graph::encoded::MOST_BLANK_NODES;
 use graph::simple::reading::read_graph;
 use graph::simple::{LARGEST_FORM, SimpleGraph};
+use isomorphism::check::check_mapping;
+use isomorphism::compare::{Comparison, compare};
 use refinement::colouring::Colouring;
 use refinement::refiner::Refiner;
 use stability::stable;
-use std::io;
+use std::{array, io};
 
 mod orders;
 mod random;
@@ -31,7 +34,7 @@ fn main(rt: HostRuntime) -> anyhow::Result<()> {
     time_steps(&rt, &large)
 }
 
-// What is done on the way to the form of an encoded graph, and at last all of it.
+// What is done on the way to the form of an encoded graph, then all of it, and what is done with two graphs.
 fn time_steps(rt: &HostRuntime, encoded: &[u64]) -> anyhow::Result<()> {
     time(rt, "different triples read", || {
         read_graph(encoded, LARGEST_FORM).map_or(0, |graph| graph.triples().len())
@@ -51,7 +54,21 @@ fn time_steps(rt: &HostRuntime, encoded: &[u64]) -> anyhow::Result<()> {
     time(rt, "numbers of the form found", || {
         form_of(encoded, &mut out).unwrap_or(0)
     })?;
+    time(rt, "places when it is compared with itself", || {
+        places_of(&compare(encoded, encoded))
+    })?;
+    let itself: [u64; MOST_BLANK_NODES] = array::from_fn(|node| node as u64);
+    time(rt, "mapping of it to itself accepted", || {
+        usize::from(check_mapping(encoded, encoded, &itself).is_ok())
+    })?;
     Ok(())
+}
+
+fn places_of(comparison: &Comparison) -> usize {
+    match comparison {
+        Comparison::Isomorphic(mapping) => mapping.places().len(),
+        Comparison::NotIsomorphic | Comparison::Refused(_) => 0,
+    }
 }
 
 // Not inlined where it is timed: only the count of blank nodes is told there, and what they see is to be found all the same.
