@@ -12,7 +12,7 @@ form alike:
 	cd crates/$@ && rt run > /dev/null
 	mkdir -p target/bin && cp crates/$@/out/$@ target/bin
 
-# Builds the program that takes times, and runs it with 1 MiB of stack: it fails if the core's local arrays and its own need more. What was
+# Builds the program that takes times, and runs it with 1 MiB of stack: it fails if the local arrays of what it calls and its own need more. What was
 # done goes to standard output, the times to standard error.
 measure:
 	cd crates/measure && rt run > /dev/null 2>&1 || (cd crates/measure && rt run)

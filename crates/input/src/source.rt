@@ -59,7 +59,8 @@ fn read_whole<R: Read + Drop>(rt: &HostRuntime, mut reader: R) -> io::Result<Sou
     Ok(Source::of_bytes(rt.alloc(), bytes.as_slice())?)
 }
 
-// The same, and if it is an error, a line that names what could not be read. A line that cannot be written is let go: the error matters more.
+// Hands on what was read. If it is an error, a line on standard error names what could not be read; one that cannot be written is let go, since the
+// error matters more.
 pub(crate) fn named<T>(rt: &HostRuntime, name: &str, read: io::Result<T>) -> io::Result<T>
     ensures { result ≡ read }
 {
