@@ -4,5 +4,6 @@ pub mod Back
 pub mod Missing
 pub mod Parts
 pub mod Refusals
+pub mod Found
 pub mod Compared
 pub mod Promises
