@@ -5,10 +5,12 @@
 --   alike v           whether v tells that two graphs are isomorphic
 --   all_alike vs      whether all of vs do
 --   status asked vs   the status that a program ends with: 1 where it is asked whether all are alike, and they are not
-use Rattle.std.specs.Prelude.{ℕ, Bool, true, false, not, cond, ◌&&◌, List, [], ◌∷◌, slice_index_or}
-use Rattle.std.specs.List.{list_all}
+--   lines_of vs       the lines that tell all of vs, in order, each with its end
+use Rattle.std.specs.Prelude.{ℕ, Bool, true, false, not, cond, ◌&&◌, List, [], ◌∷◌, ◌++◌, slice_index_or}
+use Rattle.std.specs.List.{list_all, flat_map}
 use Rattle.theory.specs.Row.{Row}
 use Rattle.theory.specs.Comparison.{CompareVerdict, isomorphic_by, not_isomorphic, first_refused, second_refused, compare_verdict}
+use Rattle.isomorphism.specs.Compared.{line}
 
 abbrev pub of_two : List Row → CompareVerdict
 of_two two = compare_verdict (slice_index_or two 0 []) (slice_index_or two 1 [])
@@ -29,3 +31,6 @@ all_alike vs = list_all alike vs
 
 abbrev pub status : Bool → List CompareVerdict → ℕ
 status asked vs = cond (asked && not (all_alike vs)) 1 0
+
+abbrev pub lines_of : List CompareVerdict → List ℕ
+lines_of vs = flat_map (λ v. line v ++ 10 ∷ []) vs

@@ -2,7 +2,7 @@
 // one is refused. With `--status` its status tells whether all are alike.
 #![tactic(auto)]
 
-use crate::answer::{answers, status};
+use crate::printing::print_answers;
 use input::arguments::{arguments, strip_option};
 use input::source::read_all;
 use std::io;
@@ -10,23 +10,14 @@ use std::io::{BufWriter, Write};
 use std::process::ExitCode;
 
 mod answer;
+mod printing;
 
 fn main(rt: HostRuntime) -> io::Result<ExitCode> {
-    let heap = rt.alloc();
     let words = arguments(&rt)?;
     let behind = strip_option(words.as_slice(), "--status");
     let sources = read_all(&rt, behind.unwrap_or(words.as_slice()))?;
-    let mut graphs = Vec::new(heap);
-    for source in sources.iter() {
-        for graph in source.graphs() {
-            graphs.push(graph)?;
-        }
-    }
-    let answers = answers(heap, graphs.as_slice())?;
-    let mut out = BufWriter::new(heap, rt.stdout())?;
-    for answer in answers.iter() {
-        writeln!(out, "{answer}")?;
-    }
+    let mut out = BufWriter::new(rt.alloc(), rt.stdout())?;
+    let status = print_answers(rt.alloc(), sources.as_slice(), behind.is_some(), &mut out)?;
     out.flush()?;
-    Ok(status(behind.is_some(), answers.as_slice()))
+    Ok(status)
 }

@@ -3,6 +3,7 @@
 --   spaced xs         the numbers xs in decimal, with one blank between each two
 --   line_with v xs    the line for the verdict v: the numbers xs if it is accepted, else which refusal it is, and its place
 --   line_of xs        the line for the graph that xs encodes: its form, or the first refusal that applies
+--   lines_of graphs   the lines for all of these graphs, in order, each with its end
 use Rattle.std.specs.Prelude.{ℕ, List, [], ◌∷◌, ◌++◌, codes, decimal}
 use Rattle.std.specs.List.{flat_map}
 use Rattle.theory.specs.Row.{Row}
@@ -21,3 +22,6 @@ line_with (refused number place) xs = line (refused number place)
 
 abbrev pub line_of : Row → List ℕ
 line_of xs = line_with (form_verdict xs largest_form) (form (graph_in xs))
+
+abbrev pub lines_of : List Row → List ℕ
+lines_of graphs = flat_map (λ xs. line_of xs ++ 10 ∷ []) graphs

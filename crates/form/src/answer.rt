@@ -1,14 +1,49 @@
-ghost use Rattle.std.specs.Prelude.{◌≡◌, IfOk, string_bytes};
-ghost use Rattle.form.specs.Line.{spaced, line_of};
+ghost use Rattle.std.specs.Prelude.{◌≡◌, IfOk, OnOk, string_bytes};
+ghost use Rattle.std.specs.Io.KnownBytes.{Appends};
+ghost use Rattle.input.specs.Source.{source_graphs, graphs_of};
+ghost use Rattle.form.specs.Line.{spaced, line_of, lines_of};
 
 use canonical_form::form::form_of;
 use graph::simple::LARGEST_FORM;
+use input::source::Source;
 use std::alloc::{AllocError, Global};
 use std::fmt::Write;
+use std::io;
+use std::io::Write as _;
 
-// The line that is printed for a graph. Its text is proved here; what `main` adds is the end of the line. The form is written into the room, which
-// is lent, so that it need not be filled anew for each graph; what it holds afterwards means nothing.
-pub(crate) fn line_for(
+// Prints the line for each graph of these sources, in order, and nothing else.
+pub(crate) fn print_lines<W: io::Write>(
+    heap: Global,
+    sources: &[Source],
+    out: &mut W,
+) -> io::Result<()>
+    ensures { OnOk result (Appends (W.contents out.old) (W.contents out.new) (lines_of (graphs_of sources.now))) }
+{
+    let mut room = [0; LARGEST_FORM];
+    for source in sources {
+        print_source(heap, source, &mut room, out)?;
+    }
+    Ok(())
+}
+
+// The same for one source.
+fn print_source<W: io::Write>(
+    heap: Global,
+    source: &Source,
+    room: &mut [u64; LARGEST_FORM],
+    out: &mut W,
+) -> io::Result<()>
+    ensures { OnOk result (Appends (W.contents out.old) (W.contents out.new) (lines_of (source_graphs source.now))) }
+{
+    for graph in source.graphs() {
+        out.writeln(line_for(heap, graph, room)?)?;
+    }
+    Ok(())
+}
+
+// The line that is printed for a graph. The form is written into the room, which is lent, so that it need not be filled anew for each graph; what it
+// holds afterwards means nothing.
+fn line_for(
     heap: Global,
     graph: &[u64],
     room: &mut [u64; LARGEST_FORM],

@@ -1,4 +1,4 @@
-ghost use Rattle.std.specs.Prelude.{◌≡◌, IfOk, IfSome};
+ghost use Rattle.std.specs.Prelude.{◌≡◌, IfOk, IfSome, length, max};
 ghost use Rattle.input.specs.Graphs.{graphs_left};
 ghost use Rattle.input.specs.Source.{source_graphs, graphs_in_bytes};
 
@@ -34,8 +34,11 @@ impl Source {
     }
 }
 
-// The files of these names, or standard input where there are none. What cannot be read is named on standard error.
-pub fn read_all(rt: &HostRuntime, names: &[String]) -> io::Result<Vec<Source>> {
+// The files of these names, or standard input where there are none. What cannot be read is named on standard error. No contract can say what a file
+// holds, so this one says only that none is left out.
+pub fn read_all(rt: &HostRuntime, names: &[String]) -> io::Result<Vec<Source>>
+    ensures { IfOk result (λ sources. length sources.items ≡ max 1 (length names.now)) }
+{
     let mut sources = Vec::new(rt.alloc());
     for name in names {
         sources.push(named(rt, name.as_str(), read_file(rt, name.as_str()))?)?;
