@@ -53,7 +53,7 @@ struct collwyfa_answer {
  * isomorphic.
  *
  * The form stands at the beginning of out, and what lies behind it is as it was. On a refusal all of out is as it was. graph is only read. A room of
- * COLLWYFA_LARGEST_FORM numbers is enough for each form; where the room is too little for this one, the refusal is 3 at room.
+ * COLLWYFA_LARGEST_FORM numbers is enough for any form; where the room is too little for this one, the refusal is 3 at room.
  */
 struct collwyfa_answer collwyfa_form(const uint64_t *graph, size_t graph_length, uint64_t *out, size_t room);
 
@@ -65,8 +65,8 @@ enum collwyfa_kind {
 };
 
 /*
- * kind is one of collwyfa_kind. If a graph is refused, refusal is the number of the refusal and value its place. Else refusal is 0, and value says how
- * many places were written: the count of blank nodes where the graphs are isomorphic, and 0 where they are not.
+ * kind is one of collwyfa_kind. If a graph is refused, refusal is the number of the refusal and value its place. Else refusal is 0, and value says
+ * how many places were written: the count of blank nodes where the graphs are isomorphic, and 0 where they are not.
  */
 struct collwyfa_comparison {
     uint64_t kind;
@@ -77,8 +77,8 @@ struct collwyfa_comparison {
 /*
  * Tells whether two graphs are isomorphic. A refusal of the first, by 1, 2, 3 or 5, is told before one of the second.
  *
- * If they are isomorphic, places[k] is the blank node of the second graph that blank node k of the first is mapped to, and what lies behind these places
- * is as it was. Else all 32 places are as they were. first and second are only read.
+ * If they are isomorphic, places[k] is the blank node of the second graph that blank node k of the first is mapped to, and what lies behind these
+ * places is as it was. Else all 32 places are as they were. first and second are only read.
  */
 struct collwyfa_comparison collwyfa_compare(const uint64_t *first, size_t first_length, const uint64_t *second, size_t second_length,
                                             uint64_t places[COLLWYFA_MOST_PLACES]);

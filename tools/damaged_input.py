@@ -1,0 +1,150 @@
+#!/usr/bin/env python3
+"""Runs both programs and the library, as C calls it, on damaged input, and compares what they answer with what can be told without a search.
+
+usage: python3 tools/damaged_input.py [--inputs N] [--seed S] [--valgrind N] [--limit SECONDS] [--programs FOLDER] [--library FILE]
+It works at the top of the repository, wherever it is called.
+
+Each input is made from the seed and its index: a good graph of some family, or a file in examples/, that is cut off, turned in some bits, told to
+have huge or wrong counts, and so on (tools/damaged/damage.py has the kinds). `form` and `alike` read most of them from files, 16 to a process, and
+one of eight on standard input. No process may crash, run too long, write to standard error or end with another status than is due; each line must
+be one that can be printed, and the one that is due as far as tools/damaged/oracle.py can tell. The library is called by tools/damaged_input.c, under
+valgrind, and ten times as often without and with little stack, on rows of 64-bit numbers. It ends with status 1 where anything disagrees, and leaves
+the inputs that are to blame in target/damaged.
+"""
+
+import argparse
+import collections
+import concurrent.futures
+import os
+import shutil
+import subprocess
+import sys
+import tempfile
+import time
+
+from damaged import entry
+from damaged.damage import damaged_input
+from damaged.programs import Input, run_group
+
+TOP = os.path.join(os.path.dirname(os.path.abspath(__file__)), "..")
+KEPT = os.path.join("target", "damaged")
+BATCH = 16
+CALLS = 10
+MOST_KEPT = 20
+MOST_TROUBLES = 200
+
+
+# limit: the seconds that a process may take
+Setting = collections.namedtuple("Setting", "seed limit programs driver")
+
+
+def run_batch(setting, indexes):
+    """Counts of the inputs and of what was printed, and the troubles: the files that are to blame, and what is wrong."""
+    inputs = [Input(index, *damaged_input(setting.seed, index)) for index in indexes]
+    counts = collections.Counter(f"inputs: {one.kind}" for one in inputs)
+    number = indexes[0] // BATCH
+    by_name = number % 8 != 0
+    groups = [inputs] if by_name else [[one] for one in inputs]
+    troubles = []
+    with tempfile.TemporaryDirectory() as folder:
+        for group in groups:
+            printed, found = run_group(group, by_name, folder, setting, number % 3 == 0)
+            counts += printed
+            troubles += found
+    data = {one.index: one.data for one in inputs}
+    return counts, [([(f"{index}.graph", data[index]) for index in trouble.indexes], trouble.what) for trouble in troubles]
+
+
+def run_calls(setting, indexes, under_valgrind):
+    counts, troubles = entry.run_calls(setting, indexes, under_valgrind)
+    return counts, [([(f"{indexes[0]}.calls", data)], what) for data, what in troubles]
+
+
+def ranges(count, step):
+    return [range(start, min(start + step, count)) for start in range(0, count, step)]
+
+
+def keep(troubles):
+    """Leaves the inputs that are to blame, and says which and why."""
+    for at, (files, what) in enumerate(troubles[:MOST_KEPT]):
+        names = [os.path.join(KEPT, f"{at}-{name}") for name, _ in files]
+        for name, (_, data) in zip(names, files):
+            with open(name, "wb") as file:
+                file.write(data)
+        print(f"{' '.join(names)}: {what}")
+    if len(troubles) > MOST_KEPT:
+        print(f"and {len(troubles) - MOST_KEPT} more")
+
+
+def build(arguments):
+    """Builds what is not there, the driver of the library, and the opening example, which is run. Returns the driver."""
+    shutil.rmtree(KEPT, ignore_errors=True)
+    os.makedirs(KEPT)
+    if not all(os.path.exists(os.path.join(arguments.programs, name)) for name in ("form", "alike")):
+        subprocess.run(["make", "form", "alike"], check=True)
+    if not os.path.exists(arguments.library):
+        subprocess.run(["rt", "lib"], cwd="crates/c_entry", stdout=subprocess.DEVNULL, check=True)
+    header = "crates/c_entry/include"
+    driver = os.path.join(KEPT, "driver")
+    entry.compile_c("tools/damaged_input.c", arguments.library, header, driver)
+    fault = entry.example_fault("examples/entry.c", arguments.library, header, os.path.join(KEPT, "entry"), arguments.limit)
+    if fault:
+        sys.exit(fault)
+    if arguments.valgrind > 0 and not entry.has_valgrind():
+        sys.exit("valgrind is missing; on Debian it is in the package valgrind")
+    return driver
+
+
+def run_all(setting, inputs, calls):
+    """All counts, and all troubles; it stops where these are many."""
+    # An index stands for one call or for three, by turns.
+    groups = (calls + 1) // 2
+    counts, troubles = collections.Counter(), []
+    with concurrent.futures.ProcessPoolExecutor(len(os.sched_getaffinity(0))) as pool:
+        waited = [pool.submit(run_calls, setting, indexes, True) for indexes in ranges(groups, CALLS)]
+        waited += [pool.submit(run_calls, setting, indexes, False) for indexes in ranges(10 * groups, 10 * CALLS)]
+        waited += [pool.submit(run_batch, setting, indexes) for indexes in ranges(inputs, BATCH)]
+        for done in waited:
+            found, wrong = done.result()
+            counts += found
+            troubles += wrong
+            if len(troubles) > MOST_TROUBLES:
+                pool.shutdown(cancel_futures=True)
+                break
+    return counts, troubles
+
+
+def tell(counts):
+    """Prints how many inputs, lines and calls there were, and of which kinds."""
+    print(f"{counts.pop('processes', 0)} processes of both programs")
+    for part in ("inputs", "form", "alike", "valgrind", "native"):
+        of_part = {key.split(": ")[1]: count for key, count in counts.items() if key.startswith(f"{part}: ")}
+        what = {"form": "form: {} lines", "alike": "alike: {} lines", "inputs": "{} inputs"}.get(part, f"{part}: {{}} calls")
+        print(what.format(sum(of_part.values())) + "".join(f", {count} {word}" for word, count in sorted(of_part.items())))
+
+
+def main():
+    parser = argparse.ArgumentParser()
+    parser.add_argument("--inputs", type=int, default=100_000)
+    parser.add_argument("--seed", default="1")
+    parser.add_argument("--valgrind", type=int, default=300, help="how many calls under valgrind, about")
+    parser.add_argument("--limit", type=int, default=60, help="how many seconds a process may take")
+    parser.add_argument("--programs", default="target/bin")
+    parser.add_argument("--library", default="crates/c_entry/out/libc_entry.a")
+    arguments = parser.parse_args()
+    os.chdir(TOP)
+    try:
+        driver = build(arguments)
+    except entry.NoTool as missing:
+        sys.exit(str(missing))
+    started = time.monotonic()
+    setting = Setting(arguments.seed, arguments.limit, arguments.programs, driver)
+    counts, troubles = run_all(setting, arguments.inputs, arguments.valgrind)
+    tell(counts)
+    keep(troubles)
+    print(f"{len(troubles)} disagreements, {time.monotonic() - started:.0f} seconds")
+    return 1 if troubles else 0
+
+
+if __name__ == "__main__":
+    sys.exit(main())
