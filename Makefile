@@ -1,6 +1,7 @@
-# `make demo` shows what the programs do, `make measure` how long things take; `rt ci` proves and tests everything.
+# `rt ci` proves and tests; these show what comes of it. `make demo`: what the programs do; `make measure`: how long things take; `make bench`: how long
+# beside others; `make damaged`: that damaged input is answered.
 
-.PHONY: demo measure damaged form alike
+.PHONY: demo measure bench damaged form alike
 
 # Builds the two programs and runs them on the examples; fails if they print anything else than examples/demo.txt.
 demo: form alike
@@ -9,7 +10,7 @@ demo: form alike
 
 # Proves and builds a program, which runs once on the input of its crate, and puts it into target/bin.
 form alike:
-	cd crates/$@ && rt run > /dev/null
+	cd crates/$@ && rt run < /dev/null > /dev/null
 	mkdir -p target/bin && cp crates/$@/out/$@ target/bin
 
 # Builds the program that takes times, and runs it with 1 MiB of stack: it fails if the local arrays of what it calls and its own need more. What was
@@ -23,3 +24,7 @@ measure:
 damaged: form alike
 	cd crates/c_entry && rt lib > /dev/null
 	python3 tools/damaged_input.py
+
+# Compares the library with plain C, nauty, bliss and rdflib; fails if they disagree on which graphs are isomorphic.
+bench:
+	python3 bench/run.py

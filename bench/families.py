@@ -1,0 +1,279 @@
+"""The families of graphs that are compared and timed, made from a seed.
+
+A family gives pairs. The first of each two pairs is a graph and a renamed twin of it: blank nodes numbered another way, triples in another order,
+one of them written twice. The second is a graph beside another that is close to it: with one triple changed, or, where the family has such, one that
+no count and no colour tells from it. What is known of a pair goes with it: `isomorphic`, `different`, or None where a change may still give a twin.
+"""
+
+import random
+import struct
+
+import shapes
+from shapes import P, blank, name
+
+NAMES, PREDICATES = 20, 4
+
+
+def renamed(rng, graph, repeat=False):
+    count, triples = graph
+    places = list(range(count))
+    rng.shuffle(places)
+    moved = [tuple(blank(places[t[1]]) if isinstance(t, tuple) and t[0] else t for t in triple) for triple in triples]
+    if repeat and moved:
+        moved.append(rng.choice(moved))
+    rng.shuffle(moved)
+    return count, moved
+
+
+def changed(rng, graph):
+    """The graph with one triple changed: turned round, with another predicate, or with another object."""
+    count, triples = graph
+    if not triples:
+        return count - 1, triples
+    triples = list(triples)
+    at = rng.randrange(len(triples))
+    subject, predicate, object_ = triples[at]
+    triples[at] = rng.choice([(object_, predicate, subject), (subject, predicate + 1, object_), (subject, predicate, blank(rng.randrange(count)))])
+    return count, triples
+
+
+# Families whose graphs are drawn at random: each function gives one graph.
+
+def museum(rng):
+    """Objects by makers and in boxes; makers have a year of birth, boxes a sum that they are insured for."""
+    makers, boxes = rng.randint(1, 6), rng.randint(0, 4)
+    triples = [(blank(m), 3, name(100 + rng.randrange(3))) for m in range(makers)]
+    triples += [(blank(makers + b), 4, name(200 + rng.randrange(3))) for b in range(boxes)]
+    for thing in range(4711, 4711 + rng.randint(3, 10)):
+        triples.append((name(thing), 1, blank(rng.randrange(makers))))
+        if boxes:
+            triples.append((name(thing), 2, blank(makers + rng.randrange(boxes))))
+    return makers + boxes, triples
+
+
+def any_term(rng, count, names, blanks=0.75):
+    return blank(rng.randrange(count)) if rng.random() < blanks else name(rng.randrange(names))
+
+
+def random_triples(rng, count, written, names, predicates):
+    found = {(any_term(rng, count, names), rng.randrange(predicates), any_term(rng, count, names)) for _ in range(written)}
+    return sorted(found)
+
+
+def sparse(rng):
+    count = rng.randint(3, 24)
+    return count, random_triples(rng, count, rng.randint(count, 2 * count), 6, PREDICATES)
+
+
+def dense(rng):
+    count = rng.randint(3, 12)
+    return count, random_triples(rng, count, rng.randint(20, 70), 3, 2)
+
+
+def full(rng):
+    return 32, random_triples(rng, 32, 251, NAMES, PREDICATES)
+
+
+def hub(rng):
+    """One node that says a lot, and nodes that hang on it."""
+    count = rng.randint(4, 24)
+    triples = [(blank(0), 4, name(i)) for i in range(rng.randint(5, 40))]
+    for node in range(1, count):
+        triples.append((blank(0), 1, blank(node)) if rng.random() < 0.8 else (blank(node), 1, blank(0)))
+        if rng.random() < 0.9:
+            triples.append((blank(node), 2, name(rng.randrange(60))))
+    return count, triples
+
+
+def tree(rng):
+    count = rng.randint(2, 24)
+    triples = [(blank(rng.randrange(node)), 1, blank(node)) for node in range(1, count)]
+    triples += [(blank(node), 2, name(rng.randrange(4))) for node in range(count) if rng.random() < 0.4]
+    return count, triples
+
+
+def one_predicate(rng):
+    count = rng.randint(2, 9)
+    found = {(any_term(rng, count, 1, 0.9), P, any_term(rng, count, 1, 0.9)) for _ in range(rng.randint(count, 2 * count))}
+    return count, sorted(found)
+
+
+def regular(rng, count, degree):
+    """As many triples from each node as to each, of one predicate: all nodes see the same, but for loops."""
+    while True:
+        pairs = set()
+        for _ in range(degree):
+            images = list(range(count))
+            rng.shuffle(images)
+            pairs |= set(enumerate(images))
+        if len(pairs) == degree * count:
+            return count, shapes.arcs(sorted(pairs))
+
+
+def cubic(rng, count):
+    """A random graph without loops in which each node has three neighbours."""
+    while True:
+        ends = list(range(count)) * 3
+        rng.shuffle(ends)
+        edges = {tuple(sorted(ends[i:i + 2])) for i in range(0, len(ends), 2)}
+        if len(edges) == 3 * count // 2 and all(x != y for x, y in edges):
+            return count, shapes.both_ways(sorted(edges))
+
+
+def marked(rng, graph, marks):
+    count, triples = graph
+    return count, triples + [(blank(node), 1, name(5)) for node in rng.sample(range(count), marks)]
+
+
+def pairs(predicates):
+    return 2 * predicates, [t for k in range(predicates) for t in shapes.rings([2], 10 + k, 2 * k)]
+
+
+def rings_of(length, predicates):
+    return length * predicates, [t for k in range(predicates) for t in shapes.rings([length], 10 + k, length * k)]
+
+
+# Pairs of a family.
+
+def twins_and_changes(draw):
+    """Pairs of a family where every graph is drawn, and a close one is the graph with a triple changed."""
+    def pair(rng, alike):
+        graph = draw(rng)
+        return (graph, graph, "isomorphic") if alike else (graph, changed(rng, graph), None)
+    return pair
+
+
+def twins_and_others(graph, other):
+    """Pairs of two known graphs that are not isomorphic."""
+    def pair(rng, alike):
+        return (graph, graph, "isomorphic") if alike else (graph, other, "different")
+    return pair
+
+
+def regular_pair(rng, alike):
+    count, degree = rng.randint(3, 14), rng.randint(1, 3)
+    graph = regular(rng, count, degree)
+    return (graph, graph, "isomorphic") if alike else (graph, regular(rng, count, degree), None)
+
+
+def cubic_pair(rng, alike):
+    graph = cubic(rng, 20)
+    return (graph, graph, "isomorphic") if alike else (graph, cubic(rng, 20), None)
+
+
+def marked_pair(rng, alike):
+    marks = rng.randint(1, 2)
+    first, other = rng.sample([shapes.shrikhande(), shapes.rook()], 2)
+    graph = marked(rng, first, marks)
+    return (graph, graph, "isomorphic") if alike else (graph, marked(rng, other, marks), "different")
+
+
+def one_change(graph):
+    return twins_and_changes(lambda rng: graph)
+
+
+MAKERS = 6, [(blank(node), 1, name(5)) for node in range(6)]
+ONE_OTHER_MAKER = 6, MAKERS[1][:-1] + [(blank(5), 1, name(6))]
+CFI = [shapes.cfi_k4(twisted, False) for twisted in (False, True)]
+CFI_COLOURED = [shapes.cfi_k4(twisted, True) for twisted in (False, True)]
+RING, TWO_RINGS = (32, shapes.rings([32])), (32, shapes.rings([16, 16]))
+PAIRS = pairs(10)
+ONE_PAIR_LOOPS = 20, PAIRS[1][2:] + shapes.arcs([(0, 0), (1, 1)], 10)
+FOUR_RINGS = rings_of(4, 5)
+ONE_RING_TURNED = 20, FOUR_RINGS[1][1:] + shapes.arcs([(1, 0)], 10)
+
+# The name of a family, how many pairs it has, and how they are made.
+FAMILIES = [
+    ("museum", 100, twins_and_changes(museum)),
+    ("sparse", 100, twins_and_changes(sparse)),
+    ("dense", 100, twins_and_changes(dense)),
+    ("hub", 100, twins_and_changes(hub)),
+    ("tree", 100, twins_and_changes(tree)),
+    ("one predicate", 100, twins_and_changes(one_predicate)),
+    ("regular one way", 100, regular_pair),
+    ("full: 32 nodes, 250 triples", 20, twins_and_changes(full)),
+    ("marked strongly regular", 100, marked_pair),
+    ("ring of 32", 10, twins_and_others(RING, TWO_RINGS)),
+    ("two rings of 16", 10, twins_and_others(TWO_RINGS, RING)),
+    ("five rings of 4", 4, twins_and_others(FOUR_RINGS, ONE_RING_TURNED)),
+    ("ten pairs", 4, twins_and_others(PAIRS, ONE_PAIR_LOOPS)),
+    ("six makers alike", 4, twins_and_others(MAKERS, ONE_OTHER_MAKER)),
+    ("6 isolated nodes", 4, twins_and_others((6, []), (5, []))),
+    ("Petersen", 10, twins_and_others(shapes.generalized_petersen(5, 2), shapes.generalized_petersen(5, 1))),
+    ("dodecahedron", 10, twins_and_others(shapes.generalized_petersen(10, 2), shapes.generalized_petersen(10, 3))),
+    ("random cubic, 20 nodes", 20, cubic_pair),
+    ("Shrikhande", 4, one_change(shapes.shrikhande())),
+    ("CFI over K4", 4, twins_and_others(*CFI)),
+    ("CFI over K4, coloured", 8, twins_and_others(*CFI_COLOURED)),
+    ("rook, 4 by 4", 4, twins_and_others(shapes.rook(), shapes.shrikhande())),
+    ("32 isolated nodes", 4, twins_and_others((32, []), (31, []))),
+]
+
+
+# How the cost grows: graphs whose colours tell all nodes apart, but for those that are to have leaves.
+
+def by_blank_nodes(rng, count):
+    return count, random_triples(rng, count, 6 * count, NAMES, PREDICATES)
+
+
+def by_triples(rng, written):
+    """32 blank nodes, each with a name of its own that it tells, and random triples beside."""
+    triples = {(blank(node), 9, name(100 + node)) for node in range(32)}
+    while len(triples) < written:
+        triples.update(random_triples(rng, 32, 1, NAMES, PREDICATES))
+    return 32, sorted(triples)
+
+
+def by_leaves(_rng, exponent):
+    """20 blank nodes and 20 triples, whatever the leaves: so many pairs of two that nothing tells apart, and the others told apart by a name."""
+    count, triples = pairs(exponent)
+    return 20, triples + [(blank(node), 9, name(100 + node)) for node in range(count, 20)]
+
+
+# The name of a plot, its points, and the graph for a point.
+GROWTH = [
+    ("blank-nodes", [1, 2, 3, 4, 6, 8, 12, 16, 20, 24, 28, 32], by_blank_nodes),
+    ("triples", [32, 48, 64, 96, 128, 160, 192, 224, 256], by_triples),
+    ("leaves", list(range(11)), by_leaves),
+]
+GRAPHS_A_POINT = 10
+
+
+def numbers(graph):
+    count, triples = graph
+    return [count, len(triples)] + [n for s, p, o in triples for n in (*s, p, *o)]
+
+
+def write(path, graphs):
+    path.write_bytes(b"".join(struct.pack(f"<{len(row)}I", *row) for row in map(numbers, graphs)))
+
+
+def file_name(family):
+    return "-".join("".join(c if c.isalnum() else " " for c in family).split())
+
+
+def write_family(folder, family, seed):
+    """Writes the pairs of a family to a file, and the first of each pair to another, for times. Returns both paths and what is known of each pair."""
+    title, count, pair = family
+    rng = random.Random(f"{seed} {title}")
+    graphs, known = [], []
+    for index in range(count):
+        first, second, told = pair(rng, index % 2 == 0)
+        graphs += [renamed(rng, first), renamed(rng, second, repeat=True)]
+        known.append(told)
+    pairs_path, first_path = folder / f"{file_name(title)}.pairs", folder / f"{file_name(title)}.graphs"
+    write(pairs_path, graphs)
+    write(first_path, graphs[::2])
+    return pairs_path, first_path, known
+
+
+def write_growth(folder, plot, seed):
+    """Writes a file for each point of a plot, and returns the points with their paths."""
+    title, points, graph = plot
+    paths = []
+    for point in points:
+        rng = random.Random(f"{seed} {title} {point}")
+        path = folder / f"by-{title}-{point}.graphs"
+        write(path, [renamed(rng, graph(rng, point)) for _ in range(GRAPHS_A_POINT)])
+        paths.append((point, path))
+    return paths
