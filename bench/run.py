@@ -61,18 +61,21 @@ def take_times(program, path, effort):
     return [json.loads(line) for line in build.run([program, path, effort.runs, effort.milliseconds]).splitlines()]
 
 
-def ask_rdflib(title, path, found, effort):
-    """What rdflib took and told, for as many pairs as there is time for, beside what was found of them."""
+def ask_rdflib(title, path, found, seed, effort):
+    """What rdflib took and told, for as many pairs as there is time for, beside what was found of them. What it tells of some twins depends on how Python
+    hashes texts, so that is fixed."""
     script = [build.SYSTEM_PYTHON, build.BENCH / "rdflib_times.py", path, str(effort.rdflib_pairs), str(effort.rdflib_seconds)]
     late = False
+    hashing = os.environ | {"PYTHONHASHSEED": str(seed)}
     try:
-        said = subprocess.run(script, stdout=subprocess.PIPE, timeout=2 * effort.rdflib_seconds, check=True).stdout
+        said = subprocess.run(script, stdout=subprocess.PIPE, timeout=2 * effort.rdflib_seconds, check=True, env=hashing).stdout
     except subprocess.TimeoutExpired as expired:
         said, late = expired.stdout or b"", True
     pairs = [json.loads(line) for line in said.splitlines() if line.endswith(b"}")]
     for pair in pairs:
         verdict = found[pair["pair"]]
-        pair["wrong"] = not verdict.startswith("refused") and pair["isomorphic"] != (verdict == "isomorphic")
+        pair["denied"] = verdict == "isomorphic" and not pair["isomorphic"]
+        pair["confused"] = verdict == "different" and pair["isomorphic"]
     return title, pairs, late
 
 
@@ -95,14 +98,14 @@ def check_families(program, folder, seed):
     return checked
 
 
-def time_families(program, checked, effort, with_rdflib):
+def time_families(program, checked, seed, effort, with_rdflib):
     """For each family its times, and what rdflib says of its pairs."""
     measured, asked = [], []
     for title, pairs_path, first_path, found in checked:
         progress(f"times: {title}")
         measured.append((title, take_times(program, first_path, effort)))
         if with_rdflib:
-            asked.append(ask_rdflib(title, pairs_path, found, effort))
+            asked.append(ask_rdflib(title, pairs_path, found, seed, effort))
     return measured, asked
 
 
@@ -134,9 +137,9 @@ def rdflib_lines(asked, version, effort):
     if version is None:
         return ["rdflib is not there: Debian's python3-rdflib could not be installed."]
     pairs = [pair for _, found, _ in asked for pair in found]
-    wrong = sum(pair["wrong"] for pair in pairs)
+    denied, confused = (sum(pair[key] for pair in pairs) for key in ("denied", "confused"))
     limit = f"A family's first {effort.rdflib_pairs} pairs are asked for, but none is begun after {effort.rdflib_seconds} seconds."
-    return [f"rdflib, in microseconds. {limit} It is wrong on {wrong} of {len(pairs)} pairs.", "", *table.rdflib_table(asked)]
+    return [f"rdflib, in microseconds. {limit} Of {len(pairs)} pairs it denied {denied}, and confused {confused}.", "", *table.rdflib_table(asked)]
 
 
 def report(seed, versions, checked, measured, asked, effort):
@@ -169,7 +172,7 @@ def main():
     checked = check_families(agree_program, folder, given.seed)
     if given.sanitize:
         return
-    measured, asked = time_families(times_program, checked, effort, versions["rdflib"] is not None)
+    measured, asked = time_families(times_program, checked, given.seed, effort, versions["rdflib"] is not None)
     drawn = draw_growth(times_program, folder, given.seed, effort)
     lines = report(given.seed, versions, checked, measured, asked, effort)
     print("\n" + "\n".join(lines))

@@ -5,7 +5,7 @@ import math
 PARTS = ["one", "several", "refused"]
 HEAD = ["family", "graphs", "leaves", "ours", "plain C", "plain C, pruned",
         "encoding", "nauty", "encoding + nauty", "bliss", "encoding + bliss", "ours / better peer", "ours / plain C"]
-RDFLIB_HEAD = ["family", "pairs", "`isomorphic`, a pair", "`to_canonical_graph`, a graph", "wrong"]
+RDFLIB_HEAD = ["family", "pairs", "`isomorphic`, a pair", "`to_canonical_graph`, a graph", "denied", "confused"]
 
 
 def rows_of(cells, text_columns=1):
@@ -62,14 +62,14 @@ def micro(seconds):
 
 def rdflib_row(family, pairs, late):
     if not pairs:
-        return [family, "0", "more than the limit" if late else "no triples", "", ""]
-    wrong = sum(p["wrong"] for p in pairs)
+        return [family, "0", "more than the limit" if late else "no triples", "", "", ""]
+    denied, confused = (sum(p[key] for p in pairs) for key in ("denied", "confused"))
     compare, canonical = (sum(p[key] for p in pairs) / len(pairs) for key in ("compare", "canonical"))
-    return [family, str(len(pairs)), micro(compare), micro(canonical), str(wrong)]
+    return [family, str(len(pairs)), micro(compare), micro(canonical), str(denied), str(confused)]
 
 
 def rdflib_table(asked):
-    """`asked`: for each family its name, its pairs with what rdflib took and whether it was wrong, and whether it was stopped."""
+    """`asked`: for each family its name, its pairs with what rdflib took and told, and whether it was stopped."""
     return rows_of([RDFLIB_HEAD, *(rdflib_row(*each) for each in asked)])
 
 
