@@ -62,8 +62,8 @@ def take_times(program, path, effort):
 
 
 def ask_rdflib(title, path, found, seed, effort):
-    """What rdflib took and told, for as many pairs as there is time for, beside what was found of them. What it tells of some twins depends on how Python
-    hashes texts, so that is fixed."""
+    """What rdflib took and told, for as many pairs as there is time for, beside what was found of them. What it tells of some twins depends on how
+    Python hashes texts, so that is fixed."""
     script = [build.SYSTEM_PYTHON, build.BENCH / "rdflib_times.py", path, str(effort.rdflib_pairs), str(effort.rdflib_seconds)]
     late = False
     hashing = os.environ | {"PYTHONHASHSEED": str(seed)}

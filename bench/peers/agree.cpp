@@ -1,9 +1,9 @@
 // agree FILE: FILE holds pairs of graphs. For each pair a line, `isomorphic`, `different` or `refused N`, and a line for everything in which somebody
 // disagrees; then the status is 1.
 //
-// The library, plain C with and without pruning, and the three canonisers on both encodings are asked. The library's form must be that of plain C, number
-// for number, and what it tells of two graphs must be what the forms tell, with a mapping that is an isomorphism. Where it refuses a graph, only
-// the canonisers can tell, and they must agree among themselves.
+// The library, plain C with and without pruning, and the three canonisers on both encodings are asked. The library's form must be that of plain C,
+// number for number, and what it tells of two graphs must be what the forms tell, with a mapping that is an isomorphism. Where it refuses a graph,
+// only the canonisers can tell, and they must agree among themselves.
 #include "canonisers.h"
 #include "library.h"
 

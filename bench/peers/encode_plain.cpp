@@ -1,8 +1,8 @@
-// The plain encoding. A vertex for each blank node, all of one colour; for each name, with a colour of its own; and for each triple, with a colour for
-// its predicate. Arcs lead from the subject to the triple, and from there to the object.
+// The plain encoding. A vertex for each blank node, all of one colour; for each name, with a colour of its own; and for each triple, with a colour
+// for its predicate. Arcs lead from the subject to the triple, and from there to the object.
 //
-// It is exact: the graph can be read back from the table and the coloured directed graph, but for the numbers of blank nodes and the order of triples;
-// and names, predicates and their order depend on neither.
+// It is exact: the graph can be read back from the table and the coloured directed graph, but for the numbers of blank nodes and the order of
+// triples; and names, predicates and their order depend on neither.
 #include "encoding.h"
 
 #include <algorithm>

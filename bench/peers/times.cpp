@@ -1,8 +1,8 @@
-// times FILE RUNS MILLISECONDS: how long each tool takes for the graphs of FILE, which are parted by their leaves: one, several, and too many. For each
-// part that has graphs a line of JSON: how many graphs there are, their fewest and most leaves, and nanoseconds a graph by tool.
+// times FILE RUNS MILLISECONDS: how long each tool takes for the graphs of FILE, which are parted by their leaves: one, several, and too many. For
+// each part that has graphs a line of JSON: how many graphs there are, their fewest and most leaves, and nanoseconds a graph by tool.
 //
-// A run takes each tool in turn, for at least so many milliseconds, so that what slows the machine for a while slows all of them. The median of the runs
-// counts. Encoding and canonising are timed apart; canonising is on the lean encoding.
+// A run takes each tool in turn, for at least so many milliseconds, so that what slows the machine for a while slows all of them. The median of the
+// runs counts. Encoding and canonising are timed apart; canonising is on the lean encoding.
 #include "canonisers.h"
 #include "library.h"
 
