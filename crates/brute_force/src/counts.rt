@@ -1,0 +1,65 @@
+use crate::agreement::Findings;
+use std::fmt;
+
+// What was done with pairs of graphs, and what was found of them.
+#[derive(Clone, Copy)]
+pub struct Counts {
+    pub pairs: u64,
+    pub alike: u64,
+    // Not alike, though no colours tell them apart.
+    pub look_alike: u64,
+    pub tried: u64,
+    pub refused: u64,
+}
+
+// There are never so many that a sum is held back.
+impl Counts {
+    pub fn none() -> Counts {
+        Counts {
+            pairs: 0,
+            alike: 0,
+            look_alike: 0,
+            tried: 0,
+            refused: 0,
+        }
+    }
+
+    pub fn count_found(&mut self, found: Findings) {
+        self.pairs = self.pairs.saturating_add(1);
+        self.alike = self.alike.saturating_add(u64::from(found.alike));
+        let deceptive = found.look_alike && !found.alike;
+        self.look_alike = self.look_alike.saturating_add(u64::from(deceptive));
+        self.tried = self.tried.saturating_add(found.tried as u64);
+    }
+
+    pub fn count_answered(&mut self, is_refused: bool) {
+        self.pairs = self.pairs.saturating_add(1);
+        self.alike = self.alike.saturating_add(u64::from(!is_refused));
+        self.refused = self.refused.saturating_add(u64::from(is_refused));
+    }
+
+    pub fn add(&mut self, other: &Counts) {
+        self.pairs = self.pairs.saturating_add(other.pairs);
+        self.alike = self.alike.saturating_add(other.alike);
+        self.look_alike = self.look_alike.saturating_add(other.look_alike);
+        self.tried = self.tried.saturating_add(other.tried);
+        self.refused = self.refused.saturating_add(other.refused);
+    }
+}
+
+impl fmt::Display for Counts {
+    fn fmt<W: fmt::Write>(&self, f: &mut fmt::Formatter<W>) -> fmt::Result {
+        let graphs = self.pairs.saturating_mul(2);
+        let Counts {
+            pairs,
+            alike,
+            look_alike,
+            tried,
+            refused,
+        } = *self;
+        write!(
+            f,
+            "{graphs} graphs, {pairs} pairs, {alike} alike, {look_alike} not alike with the same stable colours, {tried} mappings tried, {refused} refused"
+        )
+    }
+}
