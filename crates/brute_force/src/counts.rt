@@ -59,7 +59,8 @@ impl fmt::Display for Counts {
         } = *self;
         write!(
             f,
-            "{graphs} graphs, {pairs} pairs, {alike} alike, {look_alike} not alike with the same stable colours, {tried} mappings tried, {refused} refused"
-        )
+            "{graphs} graphs, {pairs} pairs, {alike} alike, {look_alike} not alike with the same stable colours, "
+        )?;
+        write!(f, "{tried} mappings tried, {refused} refused")
     }
 }
