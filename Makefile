@@ -1,7 +1,8 @@
-# `rt ci` proves and tests; these show what comes of it. `make demo`: what the programs do; `make measure`: how long things take; `make bench`: how long
-# beside others; `make damaged`: that damaged input is answered.
+# `rt ci` proves and tests everything; each of these shows one thing. `make demo`: what the programs do; `make planted`: that the contracts hold the code
+# down; `make brute_force`: that the library agrees with trying all mappings; `make bench`: how fast it is beside others; `make damaged`: that damaged
+# input is answered; `make measure`: how long each step takes.
 
-.PHONY: demo measure bench damaged form alike
+.PHONY: demo planted brute_force bench damaged measure form alike
 
 # Builds the two programs and runs them on the examples; fails if they print anything else than examples/demo.txt.
 demo: form alike
@@ -12,6 +13,14 @@ demo: form alike
 form alike:
 	cd crates/$@ && rt run < /dev/null > /dev/null
 	mkdir -p target/bin && cp crates/$@/out/$@ target/bin
+
+# Plants bugs in the code, one at a time, and sees that the check refuses each; writes docs/PLANTED_BUGS.md.
+planted:
+	python3 tools/planted_bugs.py
+
+# Compares the library with all mappings of some thousand small graphs, and prints what was tried; fails if they disagree.
+brute_force:
+	cd crates/brute_force && rt run
 
 # Builds the program that takes times, and runs it with 1 MiB of stack: it fails if the local arrays of what it calls and its own need more. What was
 # done goes to standard output, the times to standard error.
