@@ -14,7 +14,7 @@ form alike:
 	cd crates/$@ && rt run < /dev/null > /dev/null
 	mkdir -p target/bin && cp crates/$@/out/$@ target/bin
 
-# Plants bugs in the code, one at a time, and sees that the check refuses each; writes docs/PLANTED_BUGS.md.
+# Plants bugs in the code, one at a time, and sees that each is refused; writes docs/PLANTED_BUGS.md.
 planted:
 	python3 tools/planted_bugs.py
 
@@ -34,6 +34,6 @@ damaged: form alike
 	cd crates/c_entry && rt lib > /dev/null
 	python3 tools/damaged_input.py
 
-# Compares the library with plain C, nauty, bliss and rdflib; fails if they disagree on which graphs are isomorphic.
+# Compares the library with plain C, nauty, bliss and rdflib; fails if one of them but rdflib disagrees on which graphs are isomorphic.
 bench:
 	python3 bench/run.py

@@ -30,7 +30,6 @@ pub(crate) fn print_answers<W: Write>(
     Ok(status(asked, answers.as_slice()))
 }
 
-// Prints a line for each answer.
 fn print_all<W: Write>(answers: &[Comparison], out: &mut W) -> io::Result<()>
     ensures { OnOk result (Appends (W.contents out.old) (W.contents out.new) (lines_of (map told answers.now))) }
 {
@@ -40,7 +39,7 @@ fn print_all<W: Write>(answers: &[Comparison], out: &mut W) -> io::Result<()>
     Ok(())
 }
 
-// The graphs of all sources.
+// All graphs at once, since two that belong together may come from two files.
 fn graphs_of(heap: Global, sources: &[Source]) -> Result<Vec<&[u64]>, AllocError>
     ensures { IfOk result (λ v. held v.items ≡ graphs_of sources.now) }
 {
@@ -51,7 +50,6 @@ fn graphs_of(heap: Global, sources: &[Source]) -> Result<Vec<&[u64]>, AllocError
     Ok(graphs)
 }
 
-// The graphs of one more source behind those that are there.
 fn push_graphs<'a>(graphs: &mut Vec<&'a [u64]>, source: &'a Source) -> Result<(), AllocError>
     ensures { OnOk result (held graphs.new.items ≡ held graphs.old.items ++ source_graphs source.now) }
 {

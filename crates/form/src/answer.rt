@@ -26,7 +26,6 @@ pub(crate) fn print_lines<W: io::Write>(
     Ok(())
 }
 
-// The same for one source.
 fn print_source<W: io::Write>(
     heap: Global,
     source: &Source,

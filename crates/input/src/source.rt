@@ -35,7 +35,7 @@ impl Source {
 }
 
 // The files of these names, or standard input where there are none. What cannot be read is named on standard error. No contract can say what a file
-// holds, so this one says only that none is left out.
+// holds, so this one says only that there is a source for each name.
 pub fn read_all(rt: &HostRuntime, names: &[String]) -> io::Result<Vec<Source>>
     ensures { IfOk result (λ sources. length sources.items ≡ max 1 (length names.now)) }
 {
