@@ -1,4 +1,4 @@
-use crate::mappings::fits;
+use crate::mappings::{fits, is_one_to_one};
 use crate::plain::Graph;
 use crate::random::Random;
 use crate::side::Side;
@@ -68,13 +68,18 @@ pub fn check_twins(
             let first = Side::new(heap, graph)?;
             let second = Side::new(heap, &other)?;
             ensure!(first.form == second.form, "twins have two forms");
+            let places = mapping.places();
+            ensure!(
+                is_one_to_one(places, first.simple.blanks),
+                "{places:?} is no mapping"
+            );
             ensure!(
                 fits(
                     first.simple.triples.as_slice(),
                     second.simple.triples.as_slice(),
-                    mapping.places()
+                    places
                 ),
-                "the mapping that is told does not fit"
+                "the mapping {places:?} that is told does not fit"
             );
         }
         Comparison::Refused(PairRefusal::First(refusal)) => ensure!(
