@@ -96,6 +96,7 @@ fn try_refused(
     Ok(counts)
 }
 
+// Guards against a change of the families or of the seed that leaves too few pairs which tell much.
 fn check_total(total: &Counts) -> anyhow::Result<()> {
     let Counts {
         alike,
