@@ -47,7 +47,7 @@ pub fn check_form(
     Ok(())
 }
 
-// Checks that a graph and a twin of it are refused as expected, or both found to be alike, and says whether they are refused.
+// Checks that a graph and a twin of it are refused as expected, or both found to be isomorphic, and says whether they are refused.
 pub fn check_twins(
     heap: Global,
     random: &mut Random,

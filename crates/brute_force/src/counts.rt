@@ -5,9 +5,9 @@ use std::fmt;
 #[derive(Clone, Copy)]
 pub struct Counts {
     pub pairs: u64,
-    pub alike: u64,
-    // Not alike, though no colours tell them apart.
-    pub look_alike: u64,
+    pub isomorphic: u64,
+    // Not isomorphic, though no colours tell them apart.
+    pub same_colours: u64,
     pub tried: u64,
     pub refused: u64,
 }
@@ -17,8 +17,8 @@ impl Counts {
     pub fn none() -> Counts {
         Counts {
             pairs: 0,
-            alike: 0,
-            look_alike: 0,
+            isomorphic: 0,
+            same_colours: 0,
             tried: 0,
             refused: 0,
         }
@@ -26,22 +26,22 @@ impl Counts {
 
     pub fn count_found(&mut self, found: Findings) {
         self.pairs = self.pairs.saturating_add(1);
-        self.alike = self.alike.saturating_add(u64::from(found.alike));
-        let deceptive = found.look_alike && !found.alike;
-        self.look_alike = self.look_alike.saturating_add(u64::from(deceptive));
+        self.isomorphic = self.isomorphic.saturating_add(u64::from(found.isomorphic));
+        let deceptive = found.same_colours && !found.isomorphic;
+        self.same_colours = self.same_colours.saturating_add(u64::from(deceptive));
         self.tried = self.tried.saturating_add(found.tried as u64);
     }
 
     pub fn count_answered(&mut self, is_refused: bool) {
         self.pairs = self.pairs.saturating_add(1);
-        self.alike = self.alike.saturating_add(u64::from(!is_refused));
+        self.isomorphic = self.isomorphic.saturating_add(u64::from(!is_refused));
         self.refused = self.refused.saturating_add(u64::from(is_refused));
     }
 
     pub fn add(&mut self, other: &Counts) {
         self.pairs = self.pairs.saturating_add(other.pairs);
-        self.alike = self.alike.saturating_add(other.alike);
-        self.look_alike = self.look_alike.saturating_add(other.look_alike);
+        self.isomorphic = self.isomorphic.saturating_add(other.isomorphic);
+        self.same_colours = self.same_colours.saturating_add(other.same_colours);
         self.tried = self.tried.saturating_add(other.tried);
         self.refused = self.refused.saturating_add(other.refused);
     }
@@ -52,14 +52,14 @@ impl fmt::Display for Counts {
         let graphs = self.pairs.saturating_mul(2);
         let Counts {
             pairs,
-            alike,
-            look_alike,
+            isomorphic,
+            same_colours,
             tried,
             refused,
         } = *self;
         write!(
             f,
-            "{graphs} graphs, {pairs} pairs, {alike} alike, {look_alike} not alike with the same stable colours, "
+            "{graphs} graphs, {pairs} pairs, {isomorphic} isomorphic, {same_colours} not isomorphic with the same stable colours, "
         )?;
         write!(f, "{tried} mappings tried, {refused} refused")
     }

@@ -30,10 +30,10 @@ mod twins;
 
 const SEED: u64 = 20261127;
 
-// How many pairs must be alike at least, how many not alike with the same stable colours, and how many refused.
-const LEAST_ALIKE: u64 = 1000;
+// How many pairs must be isomorphic at least, how many not isomorphic with the same stable colours, and how many refused.
+const LEAST_ISOMORPHIC: u64 = 1000;
 
-const LEAST_LOOK_ALIKE: u64 = 1000;
+const LEAST_SAME_COLOURS: u64 = 1000;
 
 const LEAST_REFUSED: u64 = 200;
 
@@ -99,15 +99,18 @@ fn try_refused(
 // Guards against a change of the families or of the seed that leaves too few pairs which tell much.
 fn check_total(total: &Counts) -> anyhow::Result<()> {
     let Counts {
-        alike,
-        look_alike,
+        isomorphic,
+        same_colours,
         refused,
         ..
     } = *total;
-    ensure!(alike >= LEAST_ALIKE, "only {alike} pairs are alike");
     ensure!(
-        look_alike >= LEAST_LOOK_ALIKE,
-        "only {look_alike} pairs are not alike with the same stable colours"
+        isomorphic >= LEAST_ISOMORPHIC,
+        "only {isomorphic} pairs are isomorphic"
+    );
+    ensure!(
+        same_colours >= LEAST_SAME_COLOURS,
+        "only {same_colours} pairs are not isomorphic with the same stable colours"
     );
     ensure!(refused >= LEAST_REFUSED, "only {refused} pairs are refused");
     Ok(())
