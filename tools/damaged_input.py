@@ -4,8 +4,8 @@
 usage: python3 tools/damaged_input.py [--inputs N] [--seed S] [--valgrind N] [--limit SECONDS] [--programs FOLDER] [--library FILE]
 It works at the top of the repository, wherever it is called.
 
-Each input is made from the seed and its index: a good graph of some family, or a file in examples/, that is cut off, turned in some bits, told to
-have huge or wrong counts, and so on (tools/damaged/damage.py has the kinds). `form` and `alike` read most of them from files, 16 to a process, and
+Each input is made from the seed and its index: a good graph of some family, or a file in examples/, that is cut off, with some bits flipped, given
+huge or wrong counts, and so on (tools/damaged/damage.py has the kinds). `form` and `alike` read most of them from files, 16 to a process, and
 one of eight on standard input. No process may crash, run too long, write to standard error or end with another status than is due; each line must
 be one that can be printed, and the one that is due as far as tools/damaged/oracle.py can tell. The library is called by tools/damaged_input.c, under
 valgrind, and ten times as often without and with little stack, on rows of 64-bit numbers. It ends with status 1 where anything disagrees, and leaves
