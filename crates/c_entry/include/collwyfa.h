@@ -20,7 +20,7 @@
  *     for places for 32.
  *   - What a function writes to, out or places, overlaps with nothing else that is lent to it. Two graphs that are only read may be the same memory.
  *   - No other thread writes, during a call, to what is lent to it, or reads what the call may write.
- *   - 256 KiB of stack are left. Measured, collwyfa_form takes some 200 KiB and collwyfa_compare some 224.
+ *   - 256 KiB of stack are left, which is more than either function takes.
  *
  * A call allocates nothing, keeps nothing, blocks on nothing and always returns. Calls on several threads at once are independent.
  *
