@@ -28,10 +28,9 @@ measure:
 	cd crates/measure && rt run > /dev/null 2>&1 || (cd crates/measure && rt run)
 	ulimit -s 1024 && crates/measure/out/measure
 
-# Runs both programs on 100,000 damaged inputs, and the library, as C calls it, under valgrind and without: it fails if anything crashes, hangs,
-# touches what it must not, or answers otherwise than can be told without a search. It builds and runs examples/entry.c too.
-damaged: form alike
-	cd crates/c_entry && rt lib > /dev/null
+# Builds both programs and the library and runs them on 100,000 damaged inputs, the library as C calls it, under valgrind and without: it fails if
+# anything crashes, hangs, touches what it must not, or answers otherwise than can be told without a search. It builds and runs examples/entry.c too.
+damaged:
 	python3 tools/damaged_input.py
 
 # Compares the library with plain C, nauty, bliss and rdflib; fails if one of them but rdflib disagrees on which graphs are isomorphic.

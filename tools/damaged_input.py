@@ -2,7 +2,7 @@
 """Runs both programs and the library, as C calls it, on damaged input, and compares what they answer with what can be told without a search.
 
 usage: python3 tools/damaged_input.py [--inputs N] [--seed S] [--valgrind N] [--limit SECONDS] [--programs FOLDER] [--library FILE]
-It works at the top of the repository, wherever it is called.
+It works at the top of the repository, wherever it is called, and builds the programs and the library first, if no others are named.
 
 Each input is made from the seed and its index: a good graph of some family, or a file in examples/, that is cut off, with some bits flipped, given
 huge or wrong counts, and so on (tools/damaged/damage.py has the kinds). `form` and `alike` read most of them from files, 16 to a process, and
@@ -28,6 +28,8 @@ from damaged.programs import Input, run_group
 
 TOP = os.path.join(os.path.dirname(os.path.abspath(__file__)), "..")
 KEPT = os.path.join("target", "damaged")
+PROGRAMS = os.path.join("target", "bin")
+LIBRARY = "crates/c_entry/out/libc_entry.a"
 BATCH = 16
 CALLS = 10
 MOST_KEPT = 20
@@ -77,17 +79,19 @@ def keep(troubles):
 
 
 def build(arguments):
-    """Builds what is not there, the driver of the library, and the opening example, which is run. Returns the driver."""
+    """Builds the programs and the library, if no others are named, the driver of the library, and the opening example, which is run. Returns the
+    driver."""
     shutil.rmtree(KEPT, ignore_errors=True)
     os.makedirs(KEPT)
-    if not all(os.path.exists(os.path.join(arguments.programs, name)) for name in ("form", "alike")):
+    if arguments.programs is None:
         subprocess.run(["make", "form", "alike"], check=True)
-    if not os.path.exists(arguments.library):
+    if arguments.library is None:
         subprocess.run(["rt", "lib"], cwd="crates/c_entry", stdout=subprocess.DEVNULL, check=True)
+    library = arguments.library or LIBRARY
     header = "crates/c_entry/include"
     driver = os.path.join(KEPT, "driver")
-    entry.compile_c("tools/damaged_input.c", arguments.library, header, driver)
-    fault = entry.example_fault("examples/entry.c", arguments.library, header, os.path.join(KEPT, "entry"), arguments.limit)
+    entry.compile_c("tools/damaged_input.c", library, header, driver)
+    fault = entry.example_fault("examples/entry.c", library, header, os.path.join(KEPT, "entry"), arguments.limit)
     if fault:
         sys.exit(fault)
     if arguments.valgrind > 0 and not entry.has_valgrind():
@@ -129,16 +133,16 @@ def main():
     parser.add_argument("--seed", default="1")
     parser.add_argument("--valgrind", type=int, default=300, help="how many calls under valgrind, about")
     parser.add_argument("--limit", type=int, default=60, help="how many seconds a process may take")
-    parser.add_argument("--programs", default="target/bin")
-    parser.add_argument("--library", default="crates/c_entry/out/libc_entry.a")
+    parser.add_argument("--programs", help="the folder of both programs, if they are not to be built")
+    parser.add_argument("--library", help="the static library, if it is not to be built")
     arguments = parser.parse_args()
     os.chdir(TOP)
     try:
         driver = build(arguments)
-    except entry.NoTool as missing:
+    except (entry.NoTool, FileNotFoundError, subprocess.CalledProcessError) as missing:
         sys.exit(str(missing))
     started = time.monotonic()
-    setting = Setting(arguments.seed, arguments.limit, arguments.programs, driver)
+    setting = Setting(arguments.seed, arguments.limit, arguments.programs or PROGRAMS, driver)
     counts, troubles = run_all(setting, arguments.inputs, arguments.valgrind)
     tell(counts)
     keep(troubles)
