@@ -8,8 +8,9 @@ Each input is made from the seed and its index: a good graph of some family, or 
 huge or wrong counts, and so on (tools/damaged/damage.py has the kinds). `form` and `alike` read most of them from files, 16 to a process, and
 one of eight on standard input. No process may crash, run too long, write to standard error or end with another status than is due; each line must
 be one that can be printed, and the one that is due as far as tools/damaged/oracle.py can tell. The library is called by tools/damaged_input.c, under
-valgrind, and ten times as often without and with little stack, on rows of 64-bit numbers. It ends with status 1 where anything disagrees, and leaves
-the inputs that are to blame in target/damaged.
+valgrind, and ten times as often without and with little stack, on rows of 64-bit numbers. Besides, both programs must end with status 1 and say why
+where a file is missing or a device is full. It ends with status 1 where anything disagrees, and leaves the inputs that are to blame in
+target/damaged.
 """
 
 import argparse
@@ -22,7 +23,7 @@ import sys
 import tempfile
 import time
 
-from damaged import entry
+from damaged import entry, unable
 from damaged.damage import damaged_input
 from damaged.programs import Input, run_group
 
@@ -34,6 +35,14 @@ BATCH = 16
 CALLS = 10
 MOST_KEPT = 20
 MOST_TROUBLES = 200
+TOLD = {
+    "inputs": "{} inputs",
+    "form": "form: {} lines",
+    "alike": "alike: {} lines",
+    "unable": "{} processes that could not read or write",
+    "valgrind": "valgrind: {} calls",
+    "native": "without valgrind: {} calls",
+}
 
 
 # limit: the seconds that a process may take
@@ -62,6 +71,11 @@ def run_calls(setting, indexes, under_valgrind):
     return counts, [([(f"{indexes[0]}.calls", data)], what) for data, what in troubles]
 
 
+def run_unable(setting):
+    counts, troubles = unable.run_unable(setting)
+    return counts, [([], what) for what in troubles]
+
+
 def ranges(count, step):
     return [range(start, min(start + step, count)) for start in range(0, count, step)]
 
@@ -73,7 +87,7 @@ def keep(troubles):
         for name, (_, data) in zip(names, files):
             with open(name, "wb") as file:
                 file.write(data)
-        print(f"{' '.join(names)}: {what}")
+        print(f"{' '.join(names)}: {what}" if names else what)
     if len(troubles) > MOST_KEPT:
         print(f"and {len(troubles) - MOST_KEPT} more")
 
@@ -105,7 +119,8 @@ def run_all(setting, inputs, calls):
     groups = (calls + 1) // 2
     counts, troubles = collections.Counter(), []
     with concurrent.futures.ProcessPoolExecutor(len(os.sched_getaffinity(0))) as pool:
-        waited = [pool.submit(run_calls, setting, indexes, True) for indexes in ranges(groups, CALLS)]
+        waited = [pool.submit(run_unable, setting)]
+        waited += [pool.submit(run_calls, setting, indexes, True) for indexes in ranges(groups, CALLS)]
         waited += [pool.submit(run_calls, setting, indexes, False) for indexes in ranges(10 * groups, 10 * CALLS)]
         waited += [pool.submit(run_batch, setting, indexes) for indexes in ranges(inputs, BATCH)]
         for done in waited:
@@ -121,9 +136,8 @@ def run_all(setting, inputs, calls):
 def tell(counts):
     """Prints how many inputs, lines and calls there were, and of which kinds."""
     print(f"{counts.pop('processes', 0)} processes of both programs")
-    for part in ("inputs", "form", "alike", "valgrind", "native"):
+    for part, what in TOLD.items():
         of_part = {key.split(": ")[1]: count for key, count in counts.items() if key.startswith(f"{part}: ")}
-        what = {"form": "form: {} lines", "alike": "alike: {} lines", "inputs": "{} inputs"}.get(part, f"{part}: {{}} calls")
         print(what.format(sum(of_part.values())) + "".join(f", {count} {word}" for word, count in sorted(of_part.items())))
 
 
