@@ -1,6 +1,6 @@
 /*
- * Makes the calls that standard input tells, and prints what was answered, a line for each. tools/damaged_input.py builds it against the static
- * library.
+ * Prints a line with the numbers that collwyfa.h declares, makes the calls that standard input tells, and prints what was answered, a line for each.
+ * tools/damaged_input.py builds it against the static library.
  *
  * A call is a row of 64-bit numbers: 0, the room, and the length of a graph and its numbers; or 1, and the length and numbers of a first and of a
  * second graph. Each is made twice. Once every row is lent as a block that ends where the row does, so that valgrind sees what lies beyond. Once it
@@ -146,7 +146,13 @@ static uint64_t read_number(void) {
     return number;
 }
 
+static void tell_header(void) {
+    printf("%d %d %d %d %d %d\n", COLLWYFA_LARGEST_FORM, COLLWYFA_MOST_PLACES, COLLWYFA_NOT_ISOMORPHIC, COLLWYFA_ISOMORPHIC, COLLWYFA_FIRST_REFUSED,
+           COLLWYFA_SECOND_REFUSED);
+}
+
 int main(void) {
+    tell_header();
     uint64_t what;
     for (uint64_t seed = 1; fread(&what, sizeof what, 1, stdin) == 1; seed += 10) {
         size_t room = what == 0 ? read_number() : 0;

@@ -8,9 +8,9 @@ Each input is made from the seed and its index: a good graph of some family, or 
 huge or wrong counts, and so on (tools/damaged/damage.py has the kinds). `form` and `alike` read most of them from files, 16 to a process, and
 one of eight on standard input. No process may crash, run too long, write to standard error or end with another status than is due; each line must
 be one that can be printed, and the one that is due as far as tools/damaged/oracle.py can tell. The library is called by tools/damaged_input.c, under
-valgrind, and ten times as often without and with little stack, on rows of 64-bit numbers. Besides, both programs must end with status 1 and say why
-where a file is missing or a device is full. It ends with status 1 where anything disagrees, and leaves the inputs that are to blame in
-target/damaged.
+valgrind, and ten times as often without and with little stack, on rows of 64-bit numbers, and at the bounds that its header tells. Besides, both
+programs must end with status 1 and say why where a file is missing or a device is full, and the library must need and export just the functions that
+README.md and its header tell. It ends with status 1 where anything disagrees, and leaves the inputs that are to blame in target/damaged.
 """
 
 import argparse
@@ -66,9 +66,17 @@ def run_batch(setting, indexes):
     return counts, [([(f"{index}.graph", data[index]) for index in trouble.indexes], trouble.what) for trouble in troubles]
 
 
+def run_groups(setting, groups, under_valgrind, name):
+    counts, troubles = entry.run_groups(setting, groups, under_valgrind)
+    return counts, [([(f"{name}.calls", data)], what) for data, what in troubles]
+
+
 def run_calls(setting, indexes, under_valgrind):
-    counts, troubles = entry.run_calls(setting, indexes, under_valgrind)
-    return counts, [([(f"{indexes[0]}.calls", data)], what) for data, what in troubles]
+    return run_groups(setting, [entry.calls_of(setting.seed, index) for index in indexes], under_valgrind, indexes[0])
+
+
+def run_bounds(setting, under_valgrind):
+    return run_groups(setting, entry.bound_calls(), under_valgrind, "bounds")
 
 
 def run_unable(setting):
@@ -105,7 +113,8 @@ def build(arguments):
     header = "crates/c_entry/include"
     driver = os.path.join(KEPT, "driver")
     entry.compile_c("tools/damaged_input.c", library, header, driver)
-    fault = entry.example_fault("examples/entry.c", library, header, os.path.join(KEPT, "entry"), arguments.limit)
+    fault = entry.names_fault(library)
+    fault = fault or entry.example_fault("examples/entry.c", library, header, os.path.join(KEPT, "entry"), arguments.limit)
     if fault:
         sys.exit(fault)
     if arguments.valgrind > 0 and not entry.has_valgrind():
@@ -119,7 +128,8 @@ def run_all(setting, inputs, calls):
     groups = (calls + 1) // 2
     counts, troubles = collections.Counter(), []
     with concurrent.futures.ProcessPoolExecutor(len(os.sched_getaffinity(0))) as pool:
-        waited = [pool.submit(run_unable, setting)]
+        waited = [pool.submit(run_unable, setting), pool.submit(run_bounds, setting, False)]
+        waited += [pool.submit(run_bounds, setting, True)] if calls > 0 else []
         waited += [pool.submit(run_calls, setting, indexes, True) for indexes in ranges(groups, CALLS)]
         waited += [pool.submit(run_calls, setting, indexes, False) for indexes in ranges(10 * groups, 10 * CALLS)]
         waited += [pool.submit(run_batch, setting, indexes) for indexes in ranges(inputs, BATCH)]

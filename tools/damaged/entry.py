@@ -10,7 +10,7 @@ import struct
 import subprocess
 
 from .damage import damaged_input
-from .families import graph_bytes, small_graph, written_anew
+from .families import MOST_BLANKS, MOST_DIFFERENT, graph_bytes, numbers_of, small_graph, written_anew
 from .oracle import LARGEST_FORM, WIDTH, answer_fault, encoded, graphs_in, mapping_fault
 
 TOP = 2**64 - 1
@@ -21,8 +21,14 @@ STACK = (256 + 32) * 1024  # what include/collwyfa.h asks for, and some for what
 WIDE = [2**32, 2**32 + 1, 2**33 - 1, 2**63, TOP, TOP - 1, TOP // 5, (TOP - 1) // 5, TOP // 5 + 1, 2**64 // 5 * 2 + 1]
 ROOMS = [0, 1, 5, 6, LARGEST_FORM - 1, LARGEST_FORM, LARGEST_FORM + 7]
 
-# what: 'form' or 'compare'; rows: the numbers of the graph, or of both; room: how many numbers are lent for a form
-Call = collections.namedtuple("Call", "what rows room")
+NOT_ISOMORPHIC, ISOMORPHIC, FIRST_REFUSED, SECOND_REFUSED = range(4)
+HEADER = [LARGEST_FORM, MOST_BLANKS, NOT_ISOMORPHIC, ISOMORPHIC, FIRST_REFUSED, SECOND_REFUSED]
+NEEDED = {"memcpy", "memmove", "memset"}
+EXPORTED = {"collwyfa_form", "collwyfa_compare"}
+
+# what: 'form' or 'compare'; rows: the numbers of the graph, or of both; room: how many numbers are lent for a form; due: the kind, the refusal and
+# the value, where they are known beforehand
+Call = collections.namedtuple("Call", "what rows room due", defaults=[None])
 Answer = collections.namedtuple("Answer", "kind refusal value written")
 
 
@@ -44,6 +50,22 @@ def example_fault(source, library, header, out, limit):
         due = re.findall(r"^ \*     (.*)$", file.read().split("*/")[0], re.M)
     ran = subprocess.run([out], capture_output=True, text=True, timeout=limit, check=False)
     return None if ran.returncode == 0 and due and ran.stdout.splitlines() == due else f"{source} printed {ran.stdout!r}, and not {due}"
+
+
+def names(library, *options):
+    """The names in the library that `nm` shows with these options."""
+    ran = subprocess.run(["nm", *options, library], capture_output=True, text=True, check=False)
+    if ran.returncode != 0:
+        raise NoTool(f"nm cannot read {library}:\n{ran.stderr}")
+    return {line.split()[-1] for line in ran.stdout.splitlines() if " " in line}
+
+
+def names_fault(library):
+    """What is wrong with the names that the library needs or exports, or None."""
+    for what, found, due in (("needs", names(library, "-u"), NEEDED), ("exports", names(library, "-g", "--defined-only"), EXPORTED)):
+        if found != due:
+            return f"{library} {what} {', '.join(sorted(found))}, and not {', '.join(sorted(due))}"
+    return None
 
 
 def has_valgrind():
@@ -91,6 +113,32 @@ def calls_of(seed, index):
     return [Call("form", rows[:1], LARGEST_FORM), Call("form", rows[1:], LARGEST_FORM), Call("compare", rows, 0)]
 
 
+def comparison(first, second, *due):
+    return [Call("form", [first], LARGEST_FORM), Call("form", [second], LARGEST_FORM), Call("compare", [first, second], 0, due)]
+
+
+def bound_calls():
+    """Calls at the bounds that the header tells, in groups: the largest form, with room enough and one number too little; the largest mapping; and
+    each kind of a comparison."""
+    largest, chain, again, larger = (
+        tuple(numbers_of((blanks, triples)))
+        for blanks, triples in (
+            (MOST_BLANKS, [(1, k % MOST_BLANKS, 1, 0, k) for k in range(MOST_DIFFERENT)]),
+            (MOST_BLANKS, [(1, k, 2, 1, k + 1) for k in range(MOST_BLANKS - 1)]),
+            (MOST_BLANKS, [(1, k + 1, 2, 1, k) for k in range(MOST_BLANKS - 1)]),
+            (MOST_BLANKS + 1, [(1, k, 2, 1, k + 1) for k in range(MOST_BLANKS)]),
+        )
+    )
+    return [
+        [Call("form", [largest], LARGEST_FORM, (0, 0, LARGEST_FORM))],
+        [Call("form", [largest], LARGEST_FORM - 1, (0, 3, LARGEST_FORM - 1))],
+        comparison(chain, again, ISOMORPHIC, 0, MOST_BLANKS),
+        comparison(chain, largest, NOT_ISOMORPHIC, 0, 0),
+        comparison(larger, chain, FIRST_REFUSED, 1, MOST_BLANKS + 1),
+        comparison(chain, larger, SECOND_REFUSED, 1, MOST_BLANKS + 1),
+    ]
+
+
 def written_down(call):
     numbers = [0, call.room] if call.what == "form" else [1]
     for row in call.rows:
@@ -116,10 +164,12 @@ def run(words, calls, limit):
     if ran.returncode != 0 or ran.stderr:
         said = ran.stderr.decode("ascii", "replace").split("\n")[0]
         return [], f"ends with status {ran.returncode}, and says {said!r}"
-    if len(lines) != len(calls):
-        return [], f"answers {len(lines)} of {len(calls)} calls"
+    if lines[:1] != [" ".join(map(str, HEADER))]:
+        return [], f"has a header that declares {lines[:1]}, and not {HEADER}"
+    if len(lines) != 1 + len(calls):
+        return [], f"answers {len(lines) - 1} of {len(calls)} calls"
     answers = []
-    for line in lines:
+    for line in lines[1:]:
         kind, refusal, value, *written = map(int, line.split(" "))
         answers.append(Answer(kind, refusal, value, written))
     return answers, None
@@ -135,12 +185,12 @@ def form_call_fault(call, answer):
 
 def compare_call_fault(call, answer, forms):
     """What is wrong with a comparison, by what the two calls before it answered."""
-    for kind, form in ((2, forms[0]), (3, forms[1])):
+    for kind, form in ((FIRST_REFUSED, forms[0]), (SECOND_REFUSED, forms[1])):
         if form.refusal:
             return None if answer == Answer(kind, form.refusal, form.value, []) else f"is not {kind} {form.refusal} {form.value}"
     if forms[0].written != forms[1].written:
-        return None if answer == Answer(0, 0, 0, []) else "is not 0 0 0, though the forms differ"
-    if (answer.kind, answer.refusal, answer.value) != (1, 0, len(answer.written)):
+        return None if answer == Answer(NOT_ISOMORPHIC, 0, 0, []) else "is not 0 0 0, though the forms differ"
+    if (answer.kind, answer.refusal, answer.value) != (ISOMORPHIC, 0, len(answer.written)):
         return "is not 1 0 and the count of places, though the forms are the same"
     return mapping_fault(encoded(call.rows[0]), encoded(call.rows[1]), answer.written)
 
@@ -155,6 +205,8 @@ def check_calls(words, calls, limit):
             fault = form_call_fault(call, answer)
         else:
             fault = compare_call_fault(call, answer, answers[at - 2 : at])
+        if call.due not in (None, answer[:3]):
+            fault = f"is not {call.due}"
         if fault:
             return answers, f"the answer {answer.kind} {answer.refusal} {answer.value} to call {at} of the file, {call.what}, {fault}"
     return answers, None
@@ -163,14 +215,13 @@ def check_calls(words, calls, limit):
 def answer_word(call, answer):
     if answer.refusal:
         return f"refused {answer.refusal}"
-    return "form" if call.what == "form" else "isomorphic" if answer.kind == 1 else "not isomorphic"
+    return "form" if call.what == "form" else "isomorphic" if answer.kind == ISOMORPHIC else "not isomorphic"
 
 
-def run_calls(setting, indexes, under_valgrind):
+def run_groups(setting, groups, under_valgrind):
     """Counts of what was answered, and the troubles: calls as they are handed to the driver, and what is wrong."""
     words = [*VALGRIND, setting.driver] if under_valgrind else [setting.driver]
     limit = setting.limit * SLOWER if under_valgrind else setting.limit
-    groups = [calls_of(setting.seed, index) for index in indexes]
     calls = [call for group in groups for call in group]
     answers, what = check_calls(words, calls, limit)
     where = "valgrind" if under_valgrind else "native"
