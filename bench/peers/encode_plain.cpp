@@ -16,12 +16,6 @@ static int rank(const std::vector<uint32_t> &sorted, uint32_t number) {
     return static_cast<int>(std::lower_bound(sorted.begin(), sorted.end(), number) - sorted.begin());
 }
 
-void Encoding::clear() {
-    colour.clear();
-    arcs.clear();
-    table.clear();
-}
-
 void PlainEncoder::encode(const Numbers &graph, Encoding &to) {
     const int nodes = static_cast<int>(graph[0]);
     read_triples(graph, triples);
@@ -49,22 +43,4 @@ void PlainEncoder::encode(const Numbers &graph, Encoding &to) {
     to.table = {static_cast<uint32_t>(nodes), static_cast<uint32_t>(named)};
     to.table.insert(to.table.end(), names.begin(), names.end());
     to.table.insert(to.table.end(), predicates.begin(), predicates.end());
-}
-
-std::vector<uint32_t> canonical_row(const Encoding &encoding, const std::vector<int> &place) {
-    const size_t vertices = encoding.colour.size();
-    std::vector<uint32_t> row = {static_cast<uint32_t>(encoding.table.size())};
-    row.insert(row.end(), encoding.table.begin(), encoding.table.end());
-    row.push_back(static_cast<uint32_t>(vertices));
-    const size_t colours = row.size();
-    row.resize(colours + vertices);
-    for (size_t v = 0; v < vertices; v++) row[colours + place[v]] = static_cast<uint32_t>(encoding.colour[v]);
-    auto arcs = encoding.arcs;
-    for (auto &[from, to] : arcs) from = place[from], to = place[to];
-    std::sort(arcs.begin(), arcs.end());
-    for (const auto &[from, to] : arcs) {
-        row.push_back(static_cast<uint32_t>(from));
-        row.push_back(static_cast<uint32_t>(to));
-    }
-    return row;
 }
