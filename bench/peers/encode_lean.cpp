@@ -1,6 +1,6 @@
 // The lean encoding, with as few vertices as is easy. Triples between names are in the table alone. What a blank node says of names and of itself is
 // its colour: nodes get the rank of that list, and the table has the lists. Only a triple between two different blank nodes has a vertex, with a
-// colour for its predicate and arcs as in the plain encoding; and where all of these triples have one predicate, there are arcs in their stead.
+// colour for its predicate and arcs as in the plain encoding; and where all of these triples have one predicate, arcs take their place.
 //
 // It is exact, as the plain one is: table, colours and arcs give the graph back but for the numbers of blank nodes and the order of triples. The
 // table alone says whether arcs stand for triples, since it has the predicates of the triples between different blank nodes.
