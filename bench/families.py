@@ -55,9 +55,16 @@ def any_term(rng, count, names, blanks=0.75):
     return blank(rng.randrange(count)) if rng.random() < blanks else name(rng.randrange(names))
 
 
-def random_triples(rng, count, written, names, predicates):
-    found = {(any_term(rng, count, names), rng.randrange(predicates), any_term(rng, count, names)) for _ in range(written)}
+def different(wanted, draw):
+    """So many different ones of what is drawn, of which there must be enough."""
+    found = set()
+    while len(found) < wanted:
+        found.add(draw())
     return sorted(found)
+
+
+def random_triples(rng, count, wanted, names, predicates):
+    return different(wanted, lambda: (any_term(rng, count, names), rng.randrange(predicates), any_term(rng, count, names)))
 
 
 def sparse(rng):
@@ -71,7 +78,7 @@ def dense(rng):
 
 
 def full(rng):
-    return 32, random_triples(rng, 32, 251, NAMES, PREDICATES)
+    return 32, random_triples(rng, 32, 250, NAMES, PREDICATES)
 
 
 def hub(rng):
@@ -94,8 +101,7 @@ def tree(rng):
 
 def one_predicate(rng):
     count = rng.randint(2, 9)
-    found = {(any_term(rng, count, 1, 0.9), P, any_term(rng, count, 1, 0.9)) for _ in range(rng.randint(count, 2 * count))}
-    return count, sorted(found)
+    return count, different(rng.randint(count, 2 * count), lambda: (any_term(rng, count, 1, 0.9), P, any_term(rng, count, 1, 0.9)))
 
 
 def regular(rng, count, degree):
