@@ -216,35 +216,6 @@ FAMILIES = [
 ]
 
 
-# How the cost grows: graphs whose colours tell all nodes apart, but for those that are to have leaves.
-
-def by_blank_nodes(rng, count):
-    return count, random_triples(rng, count, 6 * count, NAMES, PREDICATES)
-
-
-def by_triples(rng, written):
-    """32 blank nodes, each with a name of its own that it tells, and random triples beside."""
-    triples = {(blank(node), 9, name(100 + node)) for node in range(32)}
-    while len(triples) < written:
-        triples.update(random_triples(rng, 32, 1, NAMES, PREDICATES))
-    return 32, sorted(triples)
-
-
-def by_leaves(_rng, exponent):
-    """20 blank nodes and 20 triples, whatever the leaves: so many pairs of two that nothing tells apart, and the others told apart by a name."""
-    count, triples = pairs(exponent)
-    return 20, triples + [(blank(node), 9, name(100 + node)) for node in range(count, 20)]
-
-
-# The name of a plot, its points, and the graph for a point.
-GROWTH = [
-    ("blank-nodes", [1, 2, 3, 4, 6, 8, 12, 16, 20, 24, 28, 32], by_blank_nodes),
-    ("triples", [32, 48, 64, 96, 128, 160, 192, 224, 256], by_triples),
-    ("leaves", list(range(11)), by_leaves),
-]
-GRAPHS_A_POINT = 10
-
-
 def numbers(graph):
     count, triples = graph
     return [count, len(triples)] + [n for s, p, o in triples for n in (*s, p, *o)]
@@ -271,15 +242,3 @@ def write_family(folder, family, seed):
     write(pairs_path, graphs)
     write(first_path, graphs[::2])
     return pairs_path, first_path, known
-
-
-def write_growth(folder, plot, seed):
-    """Writes a file for each point of a plot, and returns the points with their paths."""
-    title, points, graph = plot
-    paths = []
-    for point in points:
-        rng = random.Random(f"{seed} {title} {point}")
-        path = folder / f"by-{title}-{point}.graphs"
-        write(path, [renamed(rng, graph(rng, point)) for _ in range(GRAPHS_A_POINT)])
-        paths.append((point, path))
-    return paths

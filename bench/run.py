@@ -22,6 +22,7 @@ import sys
 
 import build
 import families
+import growth
 import plots
 import table
 
@@ -118,17 +119,23 @@ LINES = [("ours", lambda t: t["library"]), ("plain C", lambda t: t["plain"]), ("
 PRUNED = ("plain C, pruned", lambda t: t["pruned"])
 
 
+def times_of_point(program, path, leaves, effort):
+    """The times of a point's graphs, all of which must have so many leaves."""
+    parts = take_times(program, path, effort)
+    if [(t["graphs"], t["fewest"], t["most"]) for t in parts] != [(growth.GRAPHS_A_POINT, leaves, leaves)]:
+        build.stop(f"not all of {path.name} have {leaves} leaves")
+    return parts[0]
+
+
 def draw_growth(program, folder, seed, effort):
     """The plots, by the names of their files."""
     drawn = {}
-    for growth in families.GROWTH:
-        name = growth[0]
+    for plot in growth.GROWTH:
+        name = plot[0]
         title, label, ticks, place = PLOTS[name]
         progress(f"plot: by {name}")
-        points = [(place(point), take_times(program, path, effort)) for point, path in families.write_growth(folder, growth, seed)]
-        # Of random graphs those with one leaf count; a few of the smallest have more.
-        chosen = [(at, parts[0]) for at, parts in points]
-        lines = [(line, [(at, cost(t)) for at, t in chosen]) for line, cost in (LINES + [PRUNED] if name == "leaves" else LINES)]
+        points = [(place(point), times_of_point(program, path, leaves, effort)) for point, leaves, path in growth.write_growth(folder, plot, seed)]
+        lines = [(line, [(at, cost(t)) for at, t in points]) for line, cost in (LINES + [PRUNED] if name == "leaves" else LINES)]
         drawn[f"cost-by-{name}.svg"] = plots.plot(title, label, ticks, lines)
     return drawn
 
