@@ -20,7 +20,7 @@ PEERS = ["-lnauty", "-lbliss", "-lgmp"]
 
 WARN = ["-Wall", "-Wextra"]
 FAST = ["-O2", "-march=native"]
-CHECKED = ["-O1", "-g", "-fsanitize=address,undefined", "-fno-sanitize-recover=all"]
+CHECKED = ["-O1", "-g", "-fsanitize=address,undefined", "-fno-sanitize-recover=all", "-D_GLIBCXX_ASSERTIONS"]
 
 
 def stop(message):

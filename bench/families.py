@@ -33,7 +33,8 @@ def changed(rng, graph):
     triples = list(triples)
     at = rng.randrange(len(triples))
     subject, predicate, object_ = triples[at]
-    triples[at] = rng.choice([(object_, predicate, subject), (subject, predicate + 1, object_), (subject, predicate, blank(rng.randrange(count)))])
+    other = blank(rng.randrange(count)) if count else name(rng.randrange(NAMES))
+    triples[at] = rng.choice([(object_, predicate, subject), (subject, predicate + 1, object_), (subject, predicate, other)])
     return count, triples
 
 
@@ -102,6 +103,13 @@ def tree(rng):
 def one_predicate(rng):
     count = rng.randint(2, 9)
     return count, different(rng.randint(count, 2 * count), lambda: (any_term(rng, count, 1, 0.9), P, any_term(rng, count, 1, 0.9)))
+
+
+def names_only(rng):
+    """No blank nodes; in some graphs each triple has a predicate of its own."""
+    own = rng.random() < 0.5
+    triples = {(name(rng.randrange(6)), index if own else rng.randrange(2), name(rng.randrange(6))) for index in range(rng.randint(1, 12))}
+    return 0, sorted(triples)
 
 
 def regular(rng, count, degree):
@@ -196,6 +204,7 @@ FAMILIES = [
     ("hub", 100, twins_and_changes(hub)),
     ("tree", 100, twins_and_changes(tree)),
     ("one predicate", 100, twins_and_changes(one_predicate)),
+    ("names only", 20, twins_and_changes(names_only)),
     ("regular one way", 100, regular_pair),
     ("full: 32 nodes, 250 triples", 20, twins_and_changes(full)),
     ("marked strongly regular", 100, marked_pair),

@@ -7,7 +7,7 @@
 #include "graphs.h"
 
 struct Encoding {
-    std::vector<int> colour;                 // of each vertex, from 0; blank nodes are the first vertices
+    std::vector<int> colour;                 // of each vertex, from 0 to at most the count of vertices; blank nodes are the first vertices
     std::vector<std::pair<int, int>> arcs;
     std::vector<uint32_t> table;             // what the colours stand for, and what no vertex and no arc says
     int vertices() const { return static_cast<int>(colour.size()); }

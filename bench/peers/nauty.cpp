@@ -16,7 +16,7 @@ struct Cells {
 
     void fill(const Encoding &e) {
         const int count = e.vertices();
-        next.assign(count + 1, 0);
+        next.assign(count + 2, 0);  // for colours up to `count`, and one more
         for (int colour : e.colour) next[colour + 1]++;
         for (int c = 0; c < count; c++) next[c + 1] += next[c];
         vertices.resize(count);
