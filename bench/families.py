@@ -2,7 +2,8 @@
 
 A family gives pairs. The first of each two pairs is a graph and a renamed twin of it: blank nodes numbered another way, triples in another order,
 one of them written twice. The second is a graph beside another that is close to it: with one triple changed, or, where the family has such, one that
-no count and no colour tells from it. What is known of a pair goes with it: `isomorphic`, `different`, or None where a change may still give a twin.
+no count and no colour tells from it. What is known of a pair goes with it: `isomorphic`, `not isomorphic`, or None where a change may still give a
+twin.
 """
 
 import random
@@ -160,7 +161,7 @@ def twins_and_changes(draw):
 def twins_and_others(graph, other):
     """Pairs of two known graphs that are not isomorphic."""
     def pair(rng, alike):
-        return (graph, graph, "isomorphic") if alike else (graph, other, "different")
+        return (graph, graph, "isomorphic") if alike else (graph, other, "not isomorphic")
     return pair
 
 
@@ -179,7 +180,7 @@ def marked_pair(rng, alike):
     marks = rng.randint(1, 2)
     first, other = rng.sample([shapes.shrikhande(), shapes.rook()], 2)
     graph = marked(rng, first, marks)
-    return (graph, graph, "isomorphic") if alike else (graph, marked(rng, other, marks), "different")
+    return (graph, graph, "isomorphic") if alike else (graph, marked(rng, other, marks), "not isomorphic")
 
 
 def one_change(graph):

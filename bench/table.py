@@ -5,6 +5,7 @@ import math
 PARTS = ["one", "several", "refused"]
 HEAD = ["family", "graphs", "leaves", "ours", "plain C", "plain C, pruned",
         "encoding", "nauty", "encoding + nauty", "bliss", "encoding + bliss", "ours / better peer", "ours / plain C"]
+KINDS = ["isomorphic", "not isomorphic", "refused"]
 RDFLIB_HEAD = ["family", "pairs", "`isomorphic`, a pair", "`to_canonical_graph`, a graph", "denied", "confused"]
 
 
@@ -73,10 +74,12 @@ def rdflib_table(asked):
     return rows_of([RDFLIB_HEAD, *(rdflib_row(*each) for each in asked)])
 
 
+def count_kinds(verdicts):
+    return [sum(v.startswith(kind) for v in verdicts) for kind in KINDS]
+
+
 def agreement_table(verdicts):
     """`verdicts`: for each family its name and what was found of each pair."""
-    kinds = ["isomorphic", "different", "refused"]
-    rows = [[family, str(len(found)), *(str(sum(v.startswith(kind) for v in found)) for kind in kinds)] for family, found in verdicts]
     everything = [v for _, found in verdicts for v in found]
-    total = ["all", str(len(everything)), *(str(sum(v.startswith(kind) for v in everything)) for kind in kinds)]
-    return rows_of([["family", "pairs", *kinds], *rows, total])
+    rows = [[family, str(len(found)), *map(str, count_kinds(found))] for family, found in [*verdicts, ("all", everything)]]
+    return rows_of([["family", "pairs", *KINDS], *rows])

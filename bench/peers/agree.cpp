@@ -1,5 +1,5 @@
-// agree FILE: FILE holds pairs of graphs. For each pair a line, `isomorphic`, `different` or `refused N`, and a line for everything in which somebody
-// disagrees; then the status is 1.
+// agree FILE: FILE holds pairs of graphs. For each pair a line, `isomorphic` or `not isomorphic`, with `refused N` before it where the library refuses
+// a graph, and a line for everything in which somebody disagrees; then the status is 1.
 //
 // The library, plain C with and without pruning, and the three canonisers on both encodings are asked. The library's form must be that of plain C,
 // number for number, and what it tells of two graphs must be what the forms tell, with a mapping that is an isomorphism. Where it refuses a graph,
@@ -73,7 +73,8 @@ std::vector<uint32_t> peer_row(const Peer &peer, const Numbers &graph) {
     return canonical_row(encoding, place);
 }
 
-void ask_peers(const Numbers &first, const Numbers &second, size_t pair, const Comparison &told) {
+// Whether the two are isomorphic, as the library told, and where it refuses as the first of the canonisers finds; the others must find the same.
+bool ask_peers(const Numbers &first, const Numbers &second, size_t pair, const Comparison &told) {
     bool wanted = told.kind == COLLWYFA_ISOMORPHIC, known = told.refusal == 0;
     for (const Peer &peer : PEERS) {
         const bool same = peer_row(peer, first) == peer_row(peer, second);
@@ -81,6 +82,7 @@ void ask_peers(const Numbers &first, const Numbers &second, size_t pair, const C
         known = true;
         if (same != wanted) disagree(pair, peer.name);
     }
+    return wanted;
 }
 
 void check_pair(const Numbers &first, const Numbers &second, size_t pair) {
@@ -88,9 +90,9 @@ void check_pair(const Numbers &first, const Numbers &second, size_t pair) {
     const Comparison told = library_compare(first, second);
     if (!tells_what_forms_tell(told, one, other)) disagree(pair, "the library's comparison tells something else than its forms");
     if (told.kind == COLLWYFA_ISOMORPHIC && !is_isomorphism(first, second, told.mapping)) disagree(pair, "the library's mapping is no isomorphism");
-    ask_peers(first, second, pair, told);
-    if (one.refusal || other.refusal) std::printf("refused %d\n", static_cast<int>(one.refusal ? one.refusal : other.refusal));
-    else std::puts(one.form == other.form ? "isomorphic" : "different");
+    const bool isomorphic = ask_peers(first, second, pair, told);
+    if (told.refusal) std::printf("refused %d ", static_cast<int>(told.refusal));
+    std::puts(isomorphic ? "isomorphic" : "not isomorphic");
 }
 
 }  // namespace
