@@ -148,6 +148,16 @@ def rings_of(length, predicates):
     return length * predicates, [t for k in range(predicates) for t in shapes.rings([length], 10 + k, length * k)]
 
 
+def one_arc_turned(length, predicates):
+    count, triples = rings_of(length, predicates)
+    return count, triples[1:] + shapes.arcs([(1, 0)], 10)
+
+
+def makers(names):
+    """So many makers, each of whom says a name."""
+    return len(names), [(blank(node), 1, name(each)) for node, each in enumerate(names)]
+
+
 # Pairs of a family.
 
 def twins_and_changes(draw):
@@ -187,15 +197,12 @@ def one_change(graph):
     return twins_and_changes(lambda rng: graph)
 
 
-MAKERS = 6, [(blank(node), 1, name(5)) for node in range(6)]
-ONE_OTHER_MAKER = 6, MAKERS[1][:-1] + [(blank(5), 1, name(6))]
 CFI = [shapes.cfi_k4(twisted, False) for twisted in (False, True)]
 CFI_COLOURED = [shapes.cfi_k4(twisted, True) for twisted in (False, True)]
 RING, TWO_RINGS = (32, shapes.rings([32])), (32, shapes.rings([16, 16]))
 PAIRS = pairs(10)
 ONE_PAIR_LOOPS = 20, PAIRS[1][2:] + shapes.arcs([(0, 0), (1, 1)], 10)
-FOUR_RINGS = rings_of(4, 5)
-ONE_RING_TURNED = 20, FOUR_RINGS[1][1:] + shapes.arcs([(1, 0)], 10)
+ONE_PREDICATE_TWICE = 22, PAIRS[1] + shapes.rings([2], 10, 20)
 
 # The name of a family, how many pairs it has, and how they are made.
 FAMILIES = [
@@ -211,9 +218,9 @@ FAMILIES = [
     ("marked strongly regular", 100, marked_pair),
     ("ring of 32", 10, twins_and_others(RING, TWO_RINGS)),
     ("two rings of 16", 10, twins_and_others(TWO_RINGS, RING)),
-    ("five rings of 4", 4, twins_and_others(FOUR_RINGS, ONE_RING_TURNED)),
+    ("five rings of 4", 4, twins_and_others(rings_of(4, 5), one_arc_turned(4, 5))),
     ("ten pairs", 4, twins_and_others(PAIRS, ONE_PAIR_LOOPS)),
-    ("six makers alike", 4, twins_and_others(MAKERS, ONE_OTHER_MAKER)),
+    ("six makers alike", 4, twins_and_others(makers([5] * 6), makers([5] * 5 + [6]))),
     ("6 isolated nodes", 4, twins_and_others((6, []), (5, []))),
     ("Petersen", 10, twins_and_others(shapes.generalized_petersen(5, 2), shapes.generalized_petersen(5, 1))),
     ("dodecahedron", 10, twins_and_others(shapes.generalized_petersen(10, 2), shapes.generalized_petersen(10, 3))),
@@ -221,6 +228,9 @@ FAMILIES = [
     ("Shrikhande", 4, one_change(shapes.shrikhande())),
     ("CFI over K4", 4, twins_and_others(*CFI)),
     ("CFI over K4, coloured", 8, twins_and_others(*CFI_COLOURED)),
+    ("six rings of 4", 4, twins_and_others(rings_of(4, 6), one_arc_turned(4, 6))),
+    ("eleven pairs", 4, twins_and_others(pairs(11), ONE_PREDICATE_TWICE)),
+    ("seven makers alike", 4, twins_and_others(makers([5] * 7), makers([5] * 6 + [6]))),
     ("rook, 4 by 4", 4, twins_and_others(shapes.rook(), shapes.shrikhande())),
     ("32 isolated nodes", 4, twins_and_others((32, []), (31, []))),
 ]

@@ -45,14 +45,18 @@ def arguments():
     return parser.parse_args()
 
 
+FORGETTABLE = ["predicates", "directions", "names"]
+CANONISERS = 6  # nauty's two routines and bliss, each on both encodings
+
+
 def answer(verdict):
     """Whether a pair was found isomorphic, by nauty and bliss alone where the library refuses it."""
     return re.sub(r"^refused \d+ ", "", verdict)
 
 
-def agree(program, title, path, known):
+def agree(program, title, path, known, *options):
     """What was found of each pair, and lines that say where somebody disagrees, or with what is known of a pair."""
-    done = subprocess.run([program, path], capture_output=True, text=True, env=os.environ | {"LSAN_OPTIONS": f"suppressions={build.BENCH / 'leaks'}"})
+    done = subprocess.run([program, path, *options], capture_output=True, text=True, env=os.environ | {"LSAN_OPTIONS": f"suppressions={build.BENCH / 'leaks'}"})
     lines = done.stdout.splitlines()
     wrong = [f"{title}: {line}" for line in lines if line.startswith("DISAGREEMENT")]
     found = [line for line in lines if not line.startswith("DISAGREEMENT")]
@@ -90,18 +94,33 @@ def progress(words):
     print(words, file=sys.stderr, flush=True)
 
 
+def check_that_it_can_fail(noticed):
+    """`noticed`: for what the encodings were made to forget, the lines that say where somebody disagrees then. Each canoniser must, and of a refused
+    pair, where all canonisers go wrong together, it must be noticed by what is known of it."""
+    for what, lines in noticed.items():
+        blamed = {line.split(": ")[-1] for line in lines if "DISAGREEMENT" in line}
+        known = sum("by how it was made" in line for line in lines)
+        if len(blamed) < CANONISERS or not known:
+            build.stop(f"encodings that forget {what} go unnoticed: {len(blamed)} of {CANONISERS} canonisers disagree, and {known} pairs are not as known")
+        print(f"With encodings that forget {what}: {len(lines) - known} disagreements, and {known} refused pairs that are not as known.", flush=True)
+
+
 def check_families(program, folder, seed):
-    """Makes the families, and returns for each its name, its two files and what was found of its pairs. It ends here where somebody disagrees."""
-    checked, wrong = [], []
+    """Makes the families, and returns for each its name, its two files and what was found of its pairs. It ends here where somebody disagrees, or
+    where nobody does although the encodings forget something."""
+    checked, wrong, noticed = [], [], {what: [] for what in FORGETTABLE}
     for family in families.FAMILIES:
         pairs_path, first_path, known = families.write_family(folder, family, seed)
         found, more = agree(program, family[0], pairs_path, known)
         checked.append((family[0], pairs_path, first_path, found))
         wrong += more
+        for what in FORGETTABLE:
+            noticed[what] += agree(program, family[0], pairs_path, known, f"--forget-{what}")[1]
     print("\n".join(table.agreement_table([(title, found) for title, _, _, found in checked])), flush=True)
     if wrong:
         print("\n".join(wrong))
         build.stop(f"{len(wrong)} disagreements")
+    check_that_it_can_fail(noticed)
     return checked
 
 

@@ -1,15 +1,19 @@
-// agree FILE: FILE holds pairs of graphs. For each pair a line, `isomorphic` or `not isomorphic`, with `refused N` before it where the library refuses
-// a graph, and a line for everything in which somebody disagrees; then the status is 1.
+// agree FILE [--forget-predicates | --forget-directions | --forget-names]: FILE holds pairs of graphs. For each pair a line, `isomorphic` or
+// `not isomorphic`, with `refused N` before it where the library refuses a graph, and a line for everything in which somebody disagrees; then the
+// status is 1.
 //
 // The library, plain C with and without pruning, and the three canonisers on both encodings are asked. The library's form must be that of plain C,
 // number for number, and what it tells of two graphs must be what the forms tell, with a mapping that is an isomorphism. Where it refuses a graph,
-// only the canonisers can tell, and they must agree among themselves.
+// only the canonisers can tell, and they must agree among themselves. By an option both encodings forget something, to see that it is noticed;
+// then only the canonisers are checked.
 #include "canonisers.h"
+#include "forget.h"
 #include "library.h"
 
 #include <algorithm>
 #include <cstdio>
 #include <exception>
+#include <optional>
 
 namespace {
 
@@ -85,22 +89,36 @@ bool ask_peers(const Numbers &first, const Numbers &second, size_t pair, const C
     return wanted;
 }
 
-void check_pair(const Numbers &first, const Numbers &second, size_t pair) {
+void check_library(const Numbers &first, const Numbers &second, size_t pair, const Comparison &told) {
     const Answer one = answer_of(first, pair), other = answer_of(second, pair);
-    const Comparison told = library_compare(first, second);
     if (!tells_what_forms_tell(told, one, other)) disagree(pair, "the library's comparison tells something else than its forms");
     if (told.kind == COLLWYFA_ISOMORPHIC && !is_isomorphism(first, second, told.mapping)) disagree(pair, "the library's mapping is no isomorphism");
-    const bool isomorphic = ask_peers(first, second, pair, told);
+}
+
+void check_pair(const Numbers &first, const Numbers &second, size_t pair, Forgotten forgotten) {
+    const Comparison told = library_compare(first, second);
+    if (forgotten == Forgotten::NOTHING) check_library(first, second, pair, told);
+    const bool isomorphic = ask_peers(forget(first, forgotten), forget(second, forgotten), pair, told);
     if (told.refusal) std::printf("refused %d ", static_cast<int>(told.refusal));
     std::puts(isomorphic ? "isomorphic" : "not isomorphic");
+}
+
+std::optional<Forgotten> forgotten_by(const std::string &option) {
+    if (option == "") return Forgotten::NOTHING;
+    if (option == "--forget-predicates") return Forgotten::PREDICATES;
+    if (option == "--forget-directions") return Forgotten::DIRECTIONS;
+    if (option == "--forget-names") return Forgotten::NAMES;
+    return {};
 }
 
 }  // namespace
 
 int main(int argc, char **argv) try {
-    if (argc != 2) return std::fputs("usage: agree FILE\n", stderr), 2;
+    const auto forgotten = forgotten_by(argc == 3 ? argv[2] : "");
+    if (argc < 2 || argc > 3 || !forgotten)
+        return std::fputs("usage: agree FILE [--forget-predicates | --forget-directions | --forget-names]\n", stderr), 2;
     const auto graphs = read_graphs(argv[1]);
-    for (size_t i = 0; i + 1 < graphs.size(); i += 2) check_pair(graphs[i], graphs[i + 1], i / 2);
+    for (size_t i = 0; i + 1 < graphs.size(); i += 2) check_pair(graphs[i], graphs[i + 1], i / 2, *forgotten);
     return disagreements > 0;
 } catch (const std::exception &error) {
     return std::fprintf(stderr, "%s\n", error.what()), 2;
