@@ -9,7 +9,7 @@ usage: python3 bench/run.py [--quick | --sanitize | --write] [--seed N] [--no-in
 --seed N       makes other graphs of the same families
 --no-install   stops where a package of Debian is missing, instead of installing it
 
-The status is 0 only if all but rdflib agree on which graphs are isomorphic.
+The status is 0 only if all but rdflib agree on which graphs are isomorphic, and if it is noticed that an encoding forgets something.
 """
 
 import argparse
