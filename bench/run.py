@@ -56,7 +56,8 @@ def answer(verdict):
 
 def agree(program, title, path, known, *options):
     """What was found of each pair, and lines that say where somebody disagrees, or with what is known of a pair."""
-    done = subprocess.run([program, path, *options], capture_output=True, text=True, env=os.environ | {"LSAN_OPTIONS": f"suppressions={build.BENCH / 'leaks'}"})
+    leaks = os.environ | {"LSAN_OPTIONS": f"suppressions={build.BENCH / 'leaks'}"}
+    done = subprocess.run([program, path, *options], capture_output=True, text=True, env=leaks)
     lines = done.stdout.splitlines()
     wrong = [f"{title}: {line}" for line in lines if line.startswith("DISAGREEMENT")]
     found = [line for line in lines if not line.startswith("DISAGREEMENT")]
@@ -101,7 +102,7 @@ def check_that_it_can_fail(noticed):
         blamed = {line.split(": ")[-1] for line in lines if "DISAGREEMENT" in line}
         known = sum("by how it was made" in line for line in lines)
         if len(blamed) < CANONISERS or not known:
-            build.stop(f"encodings that forget {what} go unnoticed: {len(blamed)} of {CANONISERS} canonisers disagree, and {known} pairs are not as known")
+            build.stop(f"not all notice encodings without {what}: {len(blamed)} of {CANONISERS} canonisers disagree, {known} pairs are not as known")
         print(f"With encodings that forget {what}: {len(lines) - known} disagreements, and {known} refused pairs that are not as known.", flush=True)
 
 
