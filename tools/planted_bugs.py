@@ -18,7 +18,8 @@ the gate. A bug is one of
     refused    the check fails, since a fact no longer holds
     shown      the program prints other lines than those that are due, or ends with another status
     proved     nothing tells: a contract says too little, or the code does too much, or the bug is none
-    bad        it cannot be planted, does not compile, leaves a proof without a name that it cites, or ends at a limit of the prover
+    bad        it cannot be planted, does not compile, is no code that the prover covers, leaves a proof without a name that it cites, or ends at a
+               limit of the prover
 
 Before that it looks whether each function has a bug that is public, or stands in a trait's impl, or has more than ten lines from brace to brace,
 tests and the `main` of a program left out. The status is 0 only if each of these has one, and each bug is refused or shown. Without names of crates all
@@ -141,8 +142,9 @@ def try_bugs(room, crate, bugs, functions, jobs):
         if not found or found[1] not in planted:
             continue
         bug, said = planted[found[1]], found[2]
-        if said.startswith("refused, as it must be: ") or said == "refused, as it must be":
-            bug.outcome, bug.told = "refused", where(said.partition(": ")[2], functions) or "no place is told"
+        if said.startswith("refused, as it must be: "):
+            # (where no place follows, the prover does not cover the code, and no fact was tried)
+            bug.outcome, bug.told = "refused", where(said.partition(": ")[2], functions)
         elif said.startswith("NOT REFUSED"):
             bug.outcome, bug.told = "proved", "nowhere"
         else:

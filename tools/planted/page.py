@@ -26,7 +26,8 @@ and come besides the must-fail edits in `crates/*/must-fail`, which the gate tri
 - **Shown**: no contract can tell, since none says what words a program is called with, what a file holds or what reaches a terminal. The program is
   run on the input that its crate has for the gate, and prints other lines than those that are due, or ends with another status.
 - **Proved**: neither, so that a contract says too little, or the code does more than it has to. There must be none.
-- **Bad**: the bug does not compile, or takes away a name that a proof cites, or the prover came to a limit. It says nothing. There must be none.
+- **Bad**: the bug does not compile, or is no code that the prover covers, or takes away a name that a proof cites, or the prover came to a limit. It
+  says nothing. There must be none.
 
 What refused means: with this bug the proofs that are there no longer go through. That no others would is no verdict of the check; it is so where the
 bug breaks what a contract says, and each of these was chosen to.
