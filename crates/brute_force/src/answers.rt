@@ -22,7 +22,7 @@ pub struct Told {
 const MARK: u64 = u64::MAX;
 
 // Checks that with so much room the form of a graph is refused as expected, or found if nothing is. What is lent stays as it was past the form.
-pub fn check_form(
+pub(crate) fn check_form(
     heap: Global,
     graph: &Graph,
     room: usize,
@@ -48,7 +48,7 @@ pub fn check_form(
 }
 
 // Checks that a graph and a twin of it are refused as expected, or both found to be isomorphic, and says whether they are refused.
-pub fn check_twins(
+pub(crate) fn check_twins(
     heap: Global,
     random: &mut Random,
     graph: &Graph,

@@ -14,7 +14,7 @@ pub struct Counts {
 
 // There are never so many that a sum is held back.
 impl Counts {
-    pub fn none() -> Counts {
+    pub(crate) fn none() -> Counts {
         Counts {
             pairs: 0,
             isomorphic: 0,
@@ -24,7 +24,7 @@ impl Counts {
         }
     }
 
-    pub fn count_found(&mut self, found: Findings) {
+    pub(crate) fn count_found(&mut self, found: Findings) {
         self.pairs = self.pairs.saturating_add(1);
         self.isomorphic = self.isomorphic.saturating_add(u64::from(found.isomorphic));
         let deceptive = found.same_colours && !found.isomorphic;
@@ -32,13 +32,13 @@ impl Counts {
         self.tried = self.tried.saturating_add(found.tried as u64);
     }
 
-    pub fn count_answered(&mut self, is_refused: bool) {
+    pub(crate) fn count_answered(&mut self, is_refused: bool) {
         self.pairs = self.pairs.saturating_add(1);
         self.isomorphic = self.isomorphic.saturating_add(u64::from(!is_refused));
         self.refused = self.refused.saturating_add(u64::from(is_refused));
     }
 
-    pub fn add(&mut self, other: &Counts) {
+    pub(crate) fn add(&mut self, other: &Counts) {
         self.pairs = self.pairs.saturating_add(other.pairs);
         self.isomorphic = self.isomorphic.saturating_add(other.isomorphic);
         self.same_colours = self.same_colours.saturating_add(other.same_colours);

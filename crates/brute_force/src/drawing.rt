@@ -28,7 +28,7 @@ fn term(random: &mut Random, nodes: u64) -> Term {
 }
 
 // So many triples, each with random ends, of which only the first `linked` nodes are any.
-pub fn scattered(
+pub(crate) fn scattered(
     heap: Global,
     random: &mut Random,
     blanks: u64,
@@ -50,7 +50,12 @@ pub fn scattered(
 }
 
 // For each predicate a random permutation of the nodes.
-pub fn permutations(heap: Global, random: &mut Random, blanks: u64, predicates: u64) -> Made {
+pub(crate) fn permutations(
+    heap: Global,
+    random: &mut Random,
+    blanks: u64,
+    predicates: u64,
+) -> Made {
     let mut triples = Vec::new(heap);
     for predicate in 0..predicates {
         let places = shuffled(random, blanks);
@@ -62,7 +67,7 @@ pub fn permutations(heap: Global, random: &mut Random, blanks: u64, predicates: 
 }
 
 // For each predicate rings through random nodes. This moves all nodes, so that colours say nothing.
-pub fn regular(heap: Global, random: &mut Random, blanks: u64, predicates: u64) -> Made {
+pub(crate) fn regular(heap: Global, random: &mut Random, blanks: u64, predicates: u64) -> Made {
     let mut triples = Vec::new(heap);
     for predicate in 0..predicates {
         let places = shuffled(random, blanks);
@@ -74,7 +79,7 @@ pub fn regular(heap: Global, random: &mut Random, blanks: u64, predicates: u64) 
 }
 
 // Rings of two nodes and more that the nodes are cut into, with one predicate, in one direction or in both.
-pub fn rings(
+pub(crate) fn rings(
     heap: Global,
     random: &mut Random,
     blanks: u64,
@@ -99,7 +104,7 @@ pub fn rings(
 }
 
 // From each node the same steps round a ring, each with one of two predicates or left out: every node looks like every other.
-pub fn circulant(heap: Global, random: &mut Random, blanks: u64) -> Made {
+pub(crate) fn circulant(heap: Global, random: &mut Random, blanks: u64) -> Made {
     let mut triples = Vec::new(heap);
     for step in 0..blanks {
         let predicate = random.below(3);
@@ -118,7 +123,7 @@ pub fn circulant(heap: Global, random: &mut Random, blanks: u64) -> Made {
 }
 
 // As many triples as nodes, and then some of these again.
-pub fn repeated(heap: Global, random: &mut Random, blanks: u64, predicates: u64) -> Made
+pub(crate) fn repeated(heap: Global, random: &mut Random, blanks: u64, predicates: u64) -> Made
     requires { 0 < predicates }
 {
     let mut graph = scattered(heap, random, blanks, blanks, blanks, predicates)?;
@@ -132,7 +137,7 @@ pub fn repeated(heap: Global, random: &mut Random, blanks: u64, predicates: u64)
 }
 
 // A path through all nodes, which tells them apart, and some more triples.
-pub fn rigid(heap: Global, random: &mut Random, blanks: u64, more: u64) -> Made {
+pub(crate) fn rigid(heap: Global, random: &mut Random, blanks: u64, more: u64) -> Made {
     let mut graph = scattered(heap, random, blanks, blanks, more, 2)?;
     for (node, next) in (0..blanks).zip(1..blanks) {
         graph.triples.push(link(node, 2, next))?;
@@ -141,7 +146,7 @@ pub fn rigid(heap: Global, random: &mut Random, blanks: u64, more: u64) -> Made 
 }
 
 // A triple with each of so many predicates, so that no two are the same.
-pub fn many(heap: Global, random: &mut Random, blanks: u64, count: u64) -> Made {
+pub(crate) fn many(heap: Global, random: &mut Random, blanks: u64, count: u64) -> Made {
     let mut triples = Vec::new(heap);
     for predicate in 0..count {
         triples.push(Triple {

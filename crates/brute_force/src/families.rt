@@ -129,7 +129,7 @@ pub struct Pair {
 }
 
 impl Family {
-    pub fn pair(&self, heap: Global, random: &mut Random) -> Result<Pair, AllocError> {
+    pub(crate) fn pair(&self, heap: Global, random: &mut Random) -> Result<Pair, AllocError> {
         let kind = match self.shape {
             Some(shape) => Kind::new(random, shape),
             None => Kind::any(random),

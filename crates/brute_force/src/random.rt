@@ -7,12 +7,12 @@ pub struct Random {
 }
 
 impl Random {
-    pub fn new(seed: u64) -> Random {
+    pub(crate) fn new(seed: u64) -> Random {
         Random { state: seed }
     }
 
     // A number below a bound, by the upper bits of the state: the lower ones come round soon.
-    pub fn below(&mut self, bound: u64) -> u64
+    pub(crate) fn below(&mut self, bound: u64) -> u64
         requires { 0 < bound }
         ensures { result < bound }
     {
@@ -24,7 +24,7 @@ impl Random {
     }
 
     // Yes once in so many times.
-    pub fn once_in(&mut self, times: u64) -> bool
+    pub(crate) fn once_in(&mut self, times: u64) -> bool
         requires { 0 < times }
     {
         self.below(times) == 0

@@ -42,7 +42,7 @@ pub const REFUSED_FAMILIES: [RefusedFamily; 3] = [
 
 impl RefusedFamily {
     // Makes a graph and a twin of it, and checks that both are refused as they should be, or neither. The answer is whether they are.
-    pub fn check(&self, heap: Global, random: &mut Random) -> anyhow::Result<bool> {
+    pub(crate) fn check(&self, heap: Global, random: &mut Random) -> anyhow::Result<bool> {
         match self.cause {
             Cause::LittleRoom => check_room(heap, random),
             Cause::ManyTriples => check_triples(heap, random),

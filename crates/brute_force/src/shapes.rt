@@ -48,7 +48,7 @@ pub struct Kind {
 
 impl Kind {
     // Two to six blank nodes, more often many, or fewer where triples are few; and up to three predicates.
-    pub fn new(random: &mut Random, shape: Shape) -> Kind {
+    pub(crate) fn new(random: &mut Random, shape: Shape) -> Kind {
         let blanks = if shape == Shape::Sparse {
             random.below(7)
         } else {
@@ -62,13 +62,13 @@ impl Kind {
     }
 
     // Of any shape.
-    pub fn any(random: &mut Random) -> Kind {
+    pub(crate) fn any(random: &mut Random) -> Kind {
         let shape = SHAPES[random.below(SHAPES.len() as u64) as usize];
         Kind::new(random, shape)
     }
 
     // A graph of this kind.
-    pub fn graph(&self, heap: Global, random: &mut Random) -> Result<Graph, AllocError> {
+    pub(crate) fn graph(&self, heap: Global, random: &mut Random) -> Result<Graph, AllocError> {
         let blanks = self.blanks;
         let predicates = self.predicates;
         match self.shape {

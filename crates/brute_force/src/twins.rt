@@ -4,7 +4,7 @@ use std::alloc::{AllocError, Global};
 use std::array;
 
 // Another number for each of so many nodes.
-pub fn shuffled(random: &mut Random, blanks: u64) -> Numbers {
+pub(crate) fn shuffled(random: &mut Random, blanks: u64) -> Numbers {
     let mut places: Numbers = array::from_fn(|node| node as u64);
     for node in 1..MOST_NODES.min(blanks as usize) {
         places.swap(node, random.below(node as u64 + 1) as usize);
@@ -19,7 +19,11 @@ fn shuffle(random: &mut Random, triples: &mut [Triple]) {
 }
 
 // The same graph with other numbers for its blank nodes, and its triples in another order.
-pub fn renamed(heap: Global, random: &mut Random, graph: &Graph) -> Result<Graph, AllocError> {
+pub(crate) fn renamed(
+    heap: Global,
+    random: &mut Random,
+    graph: &Graph,
+) -> Result<Graph, AllocError> {
     let mapping = shuffled(random, graph.blanks);
     let mut triples = Vec::new(heap);
     for triple in &graph.triples {
@@ -33,7 +37,7 @@ pub fn renamed(heap: Global, random: &mut Random, graph: &Graph) -> Result<Graph
 }
 
 // The same, with some triples repeated.
-pub fn twin(heap: Global, random: &mut Random, graph: &Graph) -> Result<Graph, AllocError> {
+pub(crate) fn twin(heap: Global, random: &mut Random, graph: &Graph) -> Result<Graph, AllocError> {
     let mut twin = renamed(heap, random, graph)?;
     for place in 0..graph.triples.len() {
         if let Some(triple) = twin.triples.get(place).copied() {
@@ -47,7 +51,7 @@ pub fn twin(heap: Global, random: &mut Random, graph: &Graph) -> Result<Graph, A
 }
 
 // Changes a triple: its direction is turned, it gets another predicate, or the object of another triple.
-pub fn change_one(random: &mut Random, triples: &mut [Triple]) {
+pub(crate) fn change_one(random: &mut Random, triples: &mut [Triple]) {
     if triples.is_empty() {
         return;
     }
@@ -71,7 +75,7 @@ pub fn change_one(random: &mut Random, triples: &mut [Triple]) {
 
 // Exchanges the objects of two triples with one predicate, so that each node has as many triples of each kind as before. Two are looked for that are
 // different, and where this makes no loop, a few times.
-pub fn exchange_two(random: &mut Random, triples: &mut [Triple]) {
+pub(crate) fn exchange_two(random: &mut Random, triples: &mut [Triple]) {
     if triples.is_empty() {
         return;
     }
