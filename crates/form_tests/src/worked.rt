@@ -1,5 +1,6 @@
 // Worked examples: ten graphs with what is found of each, worked out from the definitions.
 
+use example_graphs::{CHAIN, CHAIN_AGAIN, ISOLATED, RING, TWINS, TWO_PAIRS};
 use std::test::Fail;
 
 #[derive(Drop)]
@@ -13,24 +14,6 @@ pub(crate) struct Worked<'a> {
     pub(crate) labelling: &'a [u64],
     pub(crate) form: &'a [u64],
 }
-
-pub(crate) const CHAIN: [u64; 17] = [2, 3, 1, 0, 1, 0, 5, 1, 0, 2, 1, 1, 1, 1, 1, 0, 5];
-
-pub(crate) const CHAIN_AGAIN: [u64; 22] = [
-    2, 4, 1, 0, 1, 0, 5, 1, 1, 2, 1, 0, 1, 1, 1, 0, 5, 1, 1, 1, 0, 5,
-];
-
-pub(crate) const TWINS: [u64; 12] = [2, 2, 1, 0, 1, 0, 5, 1, 1, 1, 0, 5];
-
-pub(crate) const RING: [u64; 22] = [
-    4, 4, 1, 0, 3, 1, 1, 1, 1, 3, 1, 2, 1, 2, 3, 1, 3, 1, 3, 3, 1, 0,
-];
-
-pub(crate) const TWO_PAIRS: [u64; 22] = [
-    4, 4, 1, 0, 3, 1, 1, 1, 1, 3, 1, 0, 1, 2, 3, 1, 3, 1, 3, 3, 1, 2,
-];
-
-pub(crate) const ISOLATED: [u64; 2] = [2, 0];
 
 pub(crate) const WORKED: [Worked<'static>; 10] = [
     Worked {

@@ -1,4 +1,4 @@
-use crate::worked::{CHAIN, CHAIN_AGAIN, ISOLATED, TWINS};
+use example_graphs::{CHAIN, CHAIN_AGAIN, ISOLATED, TWINS};
 use graph::encoded::MOST_WRITTEN;
 use graph::refusal::Refusal;
 use isomorphism::check::check_mapping;

@@ -1,5 +1,5 @@
-use crate::worked::{CHAIN, CHAIN_AGAIN, ISOLATED, RING, TWINS, TWO_PAIRS};
 use canonical_form::form::labelled_form;
+use example_graphs::{CHAIN, CHAIN_AGAIN, ISOLATED, RING, TWINS, TWO_PAIRS};
 use graph::refusal::Refusal;
 use graph::simple::LARGEST_FORM;
 use isomorphism::check::check_mapping;
