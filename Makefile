@@ -14,7 +14,7 @@ form alike:
 	cd crates/$@ && rt run < /dev/null > /dev/null
 	mkdir -p target/bin && cp crates/$@/out/$@ target/bin
 
-# Plants bugs in the code, one at a time, and sees that each is refused; writes docs/PLANTED_BUGS.md.
+# Plants bugs in the code, one at a time, and sees that each is refused, or shown by a run; writes docs/PLANTED_BUGS.md.
 planted:
 	python3 tools/planted_bugs.py
 
