@@ -8,11 +8,11 @@ use std::io;
 use std::io::{BufWriter, Write};
 
 mod answer;
+mod line;
 
 fn main(rt: HostRuntime) -> io::Result<()> {
-    let heap = rt.alloc();
     let sources = read_all(&rt, arguments(&rt)?.as_slice())?;
-    let mut out = BufWriter::new(heap, rt.stdout())?;
-    print_lines(heap, sources.as_slice(), &mut out)?;
+    let mut out = BufWriter::new(rt.alloc(), rt.stdout())?;
+    print_lines(sources.as_slice(), &mut out)?;
     out.flush()
 }
