@@ -1,3 +1,4 @@
+use rows::part::Part;
 use rows::row_index::RowIndex;
 
 #[test]
@@ -11,6 +12,10 @@ fn opening_example(rt: HostRuntime) {
     assert_eq!(rt;
         index.in_order().as_slice(),
         [&rows[2..4], &rows[0..2]].as_slice()
+    );
+    assert_eq!(rt;
+        index.parts_in_order().as_slice(),
+        [Part { start: 2, end: 4 }, Part { start: 0, end: 2 }].as_slice()
     );
 }
 
@@ -31,6 +36,10 @@ fn rows_of_any_width(rt: HostRuntime) {
         rows.as_slice(),
         [&ROWS[2..4], &ROWS[6..9], &ROWS[0..2]].as_slice()
     );
+    let parts = index.parts_in_order();
+    assert_eq!(rt; parts.len(), 3);
+    assert_eq!(rt; [parts[0].start, parts[1].start, parts[2].start], [2, 6, 0]);
+    assert_eq!(rt; [parts[0].end, parts[1].end, parts[2].end], [4, 9, 2]);
 }
 
 #[test]

@@ -1,3 +1,4 @@
+pub mod Part
 pub mod Node
 pub mod RowTree
 pub mod RowTreeSteps
