@@ -1,4 +1,4 @@
-// Worked examples: ten graphs with what is found of each, worked out from the definitions.
+// Worked examples: eleven graphs with what is found of each, worked out from the definitions.
 
 use example_graphs::{CHAIN, CHAIN_AGAIN, ISOLATED, RING, TWINS, TWO_PAIRS};
 use std::test::Fail;
@@ -15,7 +15,7 @@ pub(crate) struct Worked<'a> {
     pub(crate) form: &'a [u64],
 }
 
-pub(crate) const WORKED: [Worked<'static>; 10] = [
+pub(crate) const WORKED: [Worked<'static>; 11] = [
     Worked {
         what: "chain: x0 1 5, x0 2 x1, x1 1 5",
         graph: &CHAIN,
@@ -59,6 +59,14 @@ pub(crate) const WORKED: [Worked<'static>; 10] = [
         form: &[
             4, 1, 0, 3, 1, 1, 1, 1, 3, 1, 0, 1, 2, 3, 1, 3, 1, 3, 3, 1, 2,
         ],
+    },
+    Worked {
+        what: "x0 3 x0",
+        graph: &[1, 1, 1, 0, 3, 1, 0],
+        colours: &[0],
+        leaves: 1,
+        labelling: &[0],
+        form: &[1, 1, 0, 3, 1, 0],
     },
     Worked {
         what: "two blank nodes without triples",
